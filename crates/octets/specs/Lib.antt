@@ -1,0 +1,7 @@
+pub mod Bytes
+pub mod Tests
+pub mod Exact
+pub mod Laws
+pub mod Filling
+pub mod Reading
+pub mod Sum
