@@ -4,7 +4,7 @@
 -- Assumes nothing.
 use mathlib.Core.Path.{_≡_, refl, sym, ap, subst, _∙_}
 use Prim.Native.Nat.{ℕ, suc, _+_, _-_, _/_, _%_, _<_, _≤_}
-use mathlib.Core.List.{List, [], _∷_, _++_, append-assoc, append-nil}
+use mathlib.Core.List.{List, [], _∷_, _++_, flatten, append-assoc, append-nil}
 use native.Mathlib.Omega.{arith}
 use native.Mathlib.Numerals.{add-one}
 use lib.ListN.{length, take, drop, set, getD, length-append, length-take, length-drop, length-set, drop-of-length-le, take-append-drop}
@@ -113,6 +113,40 @@ module _ {bs cs : List ℕ} {at : ℕ} {first out : List ℕ} (h : Filling bs cs
 
     pub last-same : length (returned at out ys) ≡ length first
     last-same = filling-lent cs [] more w .len
+
+-- ── Writers in a row: bs is the parts one after the other, and those before `at` are written
+pub record Parts (bs : List ℕ) (parts : List (List ℕ)) : Type 0 where
+  pub is : bs ≡ flatten parts
+
+pub record Writing (bs : List ℕ) (parts : List (List ℕ)) (at : ℕ) (first out : List ℕ) : Type 0 where
+  pub fill : Filling bs (flatten parts) at first out
+
+pub writing-start : {bs : List ℕ} {parts : List (List ℕ)} (first : List ℕ) → Parts bs parts → length bs ≤ length first → Writing bs parts 0 first first
+writing-start first p r = record { fill = filling-start first (p .is) r }
+
+module _ {bs p : List ℕ} {parts : List (List ℕ)} {at : ℕ} {first out : List ℕ} (h : Writing bs (p ∷ parts) at first out) where
+  next-part : Filling bs (p ++ flatten parts) at first out
+  unfolding flatten
+  next-part = h .fill
+
+  -- the next part has room
+  pub writing-fits : length p ≤ length (lent at out)
+  writing-fits = filling-fits p (flatten parts) next-part
+
+  -- and is written
+  pub writing-next : {n : ℕ} {ys : List ℕ} → Wrote p (lent at out) ys n → Writing bs parts (at + n) first (returned at out ys)
+  writing-next w = record { fill = filling-lent p (flatten parts) next-part w }
+
+module _ {bs : List ℕ} {parts : List (List ℕ)} {at : ℕ} {first out : List ℕ} (h : Writing bs parts at first out) where
+  pub writing-within : at ≤ length out
+  writing-within = h .fill .within
+
+  pub writing-same : length out ≡ length first
+  writing-same = h .fill .len
+
+pub writing-end : {bs : List ℕ} {at : ℕ} {first out : List ℕ} → Writing bs [] at first out → Wrote bs first out at
+unfolding flatten
+writing-end h = filling-end (h .fill) (omega arith)
 
 -- ── The loops of the two writers below all others
 pub le-turn : (left y : ℕ) {bs : List ℕ} {at : ℕ} {first out : List ℕ} → 0 < left → Filling bs (le left y) at first out → Filling bs (le (left - 1) (y / 256)) (at + 1) first (set out at (y % 256))

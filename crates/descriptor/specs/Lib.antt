@@ -1,0 +1,5 @@
+pub mod Descriptor
+pub mod Columns
+pub mod DescriptorLaws
+pub mod Template
+pub mod TemplateLaws

@@ -1,0 +1,7 @@
+pub mod Integer
+pub mod PkgLength
+pub mod Buffer
+pub mod Lead
+pub mod IntegerLaws
+pub mod PkgLengthLaws
+pub mod BufferLaws
