@@ -218,3 +218,6 @@ descriptor-length kind {text} {a} {x} v =
     let e₃ = le-length (r .zeros) 0 in
     let e₄ = le-length (r .space) (rangeLength (r .space) text) in
     simp length-append (omega arith)
+
+pub descriptor-most : (kind : ℕ) {text : List ℕ} {a x : ℕ} → Valid (rowOf kind) text a x → length (descriptor (rowOf kind) text a x) ≤ 46
+descriptor-most kind v = omega (arith, descriptor-length kind v, solid-row kind .size)

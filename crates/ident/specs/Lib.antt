@@ -1,0 +1,9 @@
+pub mod Ident
+pub mod EisaOf
+pub mod Gas
+pub mod Parts
+pub mod Each
+pub mod IdentLaws
+pub mod GasLaws
+pub mod Spelled
+pub mod SpelledLaws
