@@ -1,8 +1,7 @@
 // Identifiers spelled as text, refused where they are malformed; and the makers of generic addresses.
 ghost use mathlib.Core.Path.{_≡_};
-ghost use mathlib.Core.Bool.{_&&_, _||_};
 ghost use Prim.Native.Nat.{_+_, _-_, _*_, _^_, _≤_, _<_};
-ghost use lib.Dec.{T, leb};
+ghost use lib.Dec.{T};
 ghost use lib.ListN.{length, getD};
 ghost use Rattle.octets.specs.Bytes.{every};
 ghost use Rattle.octets.specs.Filling.{Wrote};
@@ -10,6 +9,9 @@ ghost use Rattle.ident.specs.Ident.{isLetter, isHex, hexDigit, isEisa, e
 ghost use Rattle.ident.specs.EisaOf.{eisaOf};
 ghost use Rattle.ident.specs.Gas.{accessSize, made};
 ghost use Rattle.ident.specs.Parts.{charTest, letterBits, isHyphened, isPair, pairByte};
+use octets::between;
+use octets::both;
+use octets::either;
 use octets::wide;
 
 // The integer of an EISA id, or the answer that the text is none.
@@ -34,24 +36,6 @@ pub struct Made {
 }
 
 // ── Characters
-
-fn both(a: bool, b: bool) -> bool
-    ensures { λ r. ⌜ r ≡ (a && b) ⌝ }
-{
-    if a { b } else { false }
-}
-
-fn either(a: bool, b: bool) -> bool
-    ensures { λ r. ⌜ r ≡ (a || b) ⌝ }
-{
-    if a { true } else { b }
-}
-
-fn between(low: u8, b: u8, high: u8) -> bool
-    ensures { λ r. ⌜ r ≡ (leb low b && leb b high) ⌝ }
-{
-    both(low <= b, b <= high)
-}
 
 fn is_letter(b: u8) -> bool
     ensures { λ r. ⌜ r ≡ isLetter b ⌝ }

@@ -128,6 +128,74 @@ fn pkg_lengths() {
     read(number::pkg_length_at(b"\x00", 0, true));
 }
 
+// ── Paths
+
+fn path_into(t: &[u8], out: &mut [u8]) -> usize {
+    if t.len() < 64 {
+        if path::is_path(t) {
+            if out.len() < 66 {
+                return 0;
+            }
+            return path::put_path(t, out);
+        }
+    }
+    0
+}
+
+// The text of the path in b, into `out`.
+fn path_text_into(b: &[u8], out: &mut [u8]) -> usize {
+    let n = path::path_at(b, 0);
+    match n {
+        Num::Some { value, next: _ } => {
+            if (out.len() as u64) < value {
+                return 0;
+            }
+            path::put_path_text(b, 0, out)
+        }
+        Num::None => 0,
+    }
+}
+
+fn path_text(b: &[u8], out: &mut [u8]) {
+    let n = path_text_into(b, out);
+    text(b"  text");
+    bytes(out, n);
+}
+
+fn path_line(t: &[u8], out: &mut [u8]) {
+    let n = path_into(t, out);
+    text(t);
+    text(b":");
+    bytes(out, n);
+    read(path::path_at(out, 0));
+    let mut back = io::buffer();
+    path_text(out, &mut back);
+}
+
+fn a_path(t: &[u8]) {
+    let mut out = io::buffer();
+    path_line(t, &mut out);
+}
+
+fn paths() {
+    a_path(b"_SB_.PCI0");
+    a_path(b"FOO_");
+    a_path(b"\\_SB_");
+    a_path(b"\\_SB_.PCI0.ISA_.COM1");
+    text(b"no paths\n");
+    a_path(b"");
+    a_path(b"\\");
+    a_path(b"FOO");
+    a_path(b"0FOO");
+    a_path(b"foo_");
+    a_path(b"FOO_.");
+    a_path(b"FOO_,BAR_");
+    text(b"2F with 2 and with 3 segments, and cut off\n");
+    read(path::path_at(b"\x2F\x02FOO_BAR_", 0));
+    read(path::path_at(b"\x2F\x03FOO_BAR_BAZ_", 0));
+    read(path::path_at(b"\x2F\x03FOO_BAR_BAZ", 0));
+}
+
 // ── Identifiers
 
 fn eisa(t: &[u8]) {
@@ -352,6 +420,7 @@ fn sums() {
 fn main() {
     integers();
     pkg_lengths();
+    paths();
     identifiers();
     descriptors();
     spaces();

@@ -1,0 +1,6 @@
+pub mod Path
+pub mod PathLaws
+pub mod PathText
+pub mod PathReading
+pub mod PathWriting
+pub mod PathCode
