@@ -1,12 +1,24 @@
 -- Laws of generic addresses: which widths have an access size, and the address or the refusal that is made of it.
 -- Assumes nothing.
 use mathlib.Core.Path.{_≡_, refl, sym, _∙_}
-use Prim.Native.Nat.{ℕ, _*_, _≤_}
+use mathlib.Core.Bool.{cond}
+use Prim.Native.Nat.{ℕ, zero, suc, _*_, _<_, _≤_}
 use native.Mathlib.Omega.{arith}
 use borrow.Author.Tests.{eq-eqb, ne-eqb}
 use lib.Dec.{eqb, eqb→eq}
 use Rattle.octets.specs.Tests.{cond-case}
 use Rattle.ident.specs.Gas.{accessSize, gas, made}
+
+pub access-small : (w : ℕ) → w ≤ 2 → w ≡ accessSize w
+unfolding accessSize
+access-small zero h = refl
+access-small (suc zero) h = refl
+access-small (suc (suc zero)) h = refl
+access-small (suc (suc (suc w))) h = absurd (omega arith)
+
+pub access-large : (w : ℕ) → 2 < w → accessSize w ≡ cond (eqb w 4) 3 (cond (eqb w 8) 4 0)
+unfolding accessSize
+access-large w h = rw (ne-eqb w 1 (λ e. omega arith), ne-eqb w 2 (λ e. omega arith)) refl
 
 pub access-width : (w : ℕ) → (accessSize w ≡ 0 → ⊥) → w ≤ 8
 unfolding accessSize

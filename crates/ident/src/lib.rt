@@ -232,19 +232,14 @@ pub fn put_uuid(t: &[u8], out: &mut [u8]) -> usize
 fn access_size_of(width: u64) -> u8
     ensures { λ r. ⌜ r ≡ accessSize width ⌝ }
 {
-    if width == 1 {
-        return 1;
-    }
-    if width == 2 {
-        return 2;
+    // 1 and 2 are their own codes
+    if width <= 2 {
+        return width as u8;
     }
     if width == 4 {
         return 3;
     }
-    if width == 8 {
-        return 4;
-    }
-    0
+    if width == 8 { 4 } else { 0 }
 }
 
 fn generic_address(space: u8, width: u64, address: u64) -> Made

@@ -1,0 +1,4 @@
+pub mod File
+pub mod Record
+pub mod FileLaws
+pub mod RecordLaws
