@@ -1,0 +1,5 @@
+pub mod Table
+pub mod TableLaws
+pub mod Edit
+pub mod Answer
+pub mod AnswerLaws
