@@ -1,7 +1,7 @@
 -- The demands of document 01, each under the sentence that it answers.
 -- Assumes nothing.
 use mathlib.Core.Path.{_≡_, refl}
-use mathlib.Core.List.{List, map, reverse}
+use mathlib.Core.List.{List, map}
 use Prim.Native.Nat.{ℕ}
 use Rattle.octets.specs.Bytes.{le, value}
 use Rattle.number.specs.Integer.{integer, width, prefix}

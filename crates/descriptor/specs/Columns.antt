@@ -1,7 +1,6 @@
 -- A descriptor's row as the numbers that the code holds: its head, which is everything before x, is one number with the low byte first.
 -- Assumes nothing.
-use mathlib.Core.Bool.{Bool, true, _&&_, _||_, cond}
-use mathlib.Core.List.{List}
+use mathlib.Core.Bool.{Bool, _&&_, _||_}
 use Prim.Native.Nat.{ℕ, _+_, _-_, _*_, _^_}
 use lib.Dec.{eqb, leb, ltb}
 use lib.ListN.{length}

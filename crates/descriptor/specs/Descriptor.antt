@@ -2,7 +2,7 @@
 -- Document 01, "Kinds" (Descriptors) and "Bytes" (Template); ACPI 6.4, 6.4.2.5 (IO), 6.4.3.4 (Memory32Fixed), 6.4.3.5 (address spaces),
 -- 6.4.3.6 (Interrupt), 6.4.3.7 (Register).
 -- Assumes nothing.
-use mathlib.Core.Bool.{Bool, true, false, _&&_, cond}
+use mathlib.Core.Bool.{Bool, true, _&&_, cond}
 use mathlib.Core.List.{List, [], _∷_, _++_}
 use Prim.Native.Nat.{ℕ, _+_, _-_, _*_, _^_}
 use lib.Dec.{eqb, leb, ltb}

@@ -1,6 +1,6 @@
 -- A template is its front, its descriptors and the end tag. Assumes nothing.
-use mathlib.Core.Path.{_≡_, refl, sym, ap, _∙_}
-use mathlib.Core.List.{List, [], _∷_, _++_}
+use mathlib.Core.Path.{_≡_, ap, _∙_}
+use mathlib.Core.List.{List, _++_}
 use Prim.Native.Nat.{ℕ, _+_, _≤_}
 use lib.ListN.{length, length-append}
 use Rattle.number.specs.BufferLaws.{buffer-front, buffer-front-most}

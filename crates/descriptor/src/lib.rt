@@ -1,11 +1,10 @@
 // Resource descriptors: which fields they may have, their sizes and their bytes, by the columns of their rows;
 // and the two ends of a resource template, between which they stand.
 ghost use mathlib.Core.Path.{_≡_};
-ghost use Prim.Native.Nat.{ℕ, _+_, _-_, _*_, _^_, _≤_, _<_};
-ghost use lib.Dec.{T};
+ghost use Prim.Native.Nat.{_+_, _-_, _*_, _^_, _≤_, _<_};
 ghost use lib.ListN.{length};
 ghost use Rattle.octets.specs.Filling.{Wrote};
-ghost use Rattle.descriptor.specs.Descriptor.{rowOf, minOf, maxOf, rangeLength, flagsFit, rangeFits, spelled, unusedFits, spaceFits, inRange, descriptor};
+ghost use Rattle.descriptor.specs.Descriptor.{rowOf, rangeLength, flagsFit, rangeFits, spelled, unusedFits, spaceFits, inRange, descriptor};
 ghost use Rattle.descriptor.specs.Template.{endTag, templateFront};
 ghost use Rattle.descriptor.specs.DescriptorLaws.{Valid, Ranged};
 ghost use Rattle.descriptor.specs.Columns.{columnsOf, sizeOf, textColumns, numberColumns, spaceColumns};

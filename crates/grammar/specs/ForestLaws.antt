@@ -1,10 +1,10 @@
 -- Records and forests: flattening a forest and growing it back is the identity in both directions, and walking along the records walks the forest.
 -- Assumes nothing.
-use mathlib.Core.Path.{_≡_, refl, sym, _∙_, ap}
-use mathlib.Core.Option.{Option, none, some, Option·none-ne-some, Option·some-injective}
+use mathlib.Core.Path.{_≡_, refl, _∙_, ap}
+use mathlib.Core.Option.{some, Option·none-ne-some, Option·some-injective}
 use mathlib.Core.List.{List, [], _∷_, _++_, append-assoc, append-nil}
-use Prim.Native.Nat.{ℕ, zero, suc, _+_}
-use lib.ListN.{length, length-append, drop}
+use Prim.Native.Nat.{ℕ, zero, suc}
+use lib.ListN.{length, drop}
 use lib.Seq.{drop-append-seam}
 use Rattle.octets.specs.Bytes.{_>>=_}
 use Rattle.octets.specs.Tests.{took₁, gave}

@@ -1,11 +1,11 @@
 -- The kinds of terms, as rows of one table: checker, encoder, reader and lister read the same rows.
 -- Document 01, "Kinds" and "Bytes"; ACPI 6.4, 20.2.5 (Term Objects Encoding) and 20.3 (AML Byte Stream Byte Values).
 -- Assumes nothing.
-use mathlib.Core.Bool.{Bool, true, false, _&&_, _||_, cond}
+use mathlib.Core.Bool.{Bool, true, false, cond}
 use mathlib.Core.Option.{Option, none, some}
 use mathlib.Core.List.{List, [], _∷_, _++_, map}
 use Prim.Native.Nat.{ℕ, _/_, _%_, _^_, _-_}
-use lib.Dec.{eqb, ltb, leb}
+use lib.Dec.{eqb, ltb}
 
 -- where a term may stand: in a list (L), as an operand or a target (V), as data (D); as a package's element, a field's entry, a template's descriptor
 pub data Place : Type 0 where

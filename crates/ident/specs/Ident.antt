@@ -1,8 +1,8 @@
 -- Identifiers spelled as text: an EISA id, which is an integer, and a UUID, which is a buffer of 16 bytes.
 -- Document 01, "Bytes" (EISA, UUID); ACPI 6.4, 19.6.36 (EISAID) and 19.6.142 (ToUUID). `EISAName` and `Uuid` of the crate.
 -- Assumes nothing.
-use mathlib.Core.Bool.{Bool, true, false, _&&_, _||_, cond}
-use mathlib.Core.List.{List, [], _∷_, _++_, map, reverse}
+use mathlib.Core.Bool.{Bool, _&&_, _||_, cond}
+use mathlib.Core.List.{List, [], _∷_, map, reverse}
 use Prim.Native.Nat.{ℕ, suc, _+_, _-_, _*_, _^_}
 use lib.Dec.{eqb, leb}
 use lib.ListN.{length, take, drop, getD}

@@ -1,7 +1,7 @@
 -- What stands in a body with its length in front: an opcode, the PkgLength of the body, the body; and a buffer of given bytes.
 -- Document 01, "Bytes" (PkgLength, UUID, Template); ACPI 6.4, 20.2.5.4 (DefBuffer, DefPackage).
 -- Assumes nothing.
-use mathlib.Core.List.{List, [], _∷_, _++_}
+use mathlib.Core.List.{List, _∷_, _++_}
 use Prim.Native.Nat.{ℕ, _+_}
 use lib.ListN.{length}
 use Rattle.number.specs.Integer.{integer}

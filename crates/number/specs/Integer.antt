@@ -1,9 +1,9 @@
 -- Integers: 0 is 00, 1 is 01; else the shortest of 0A, 0B, 0C, 0E with 1, 2, 4, 8 bytes.
 -- Document 01, "Bytes" (Integer); ACPI 6.4, 20.2.3 (ZeroOp, OneOp, ByteConst, WordConst, DWordConst, QWordConst).
 -- Assumes nothing.
-use mathlib.Core.Bool.{Bool, true, false, _&&_, cond}
-use mathlib.Core.Option.{Option, none, some}
-use mathlib.Core.List.{List, [], _∷_, _++_}
+use mathlib.Core.Bool.{_&&_, cond}
+use mathlib.Core.Option.{none, some}
+use mathlib.Core.List.{List, [], _∷_}
 use Prim.Native.Nat.{ℕ}
 use lib.Dec.{eqb, ltb, leb}
 use Rattle.octets.specs.Bytes.{Reader, _>>=_, need, le, getLe}

@@ -2,8 +2,8 @@
 -- Document 01, "Bytes" (PkgLength); ACPI 6.4, 20.2.4 (PkgLength, PkgLeadByte). `create_pkg_length` of the crate.
 -- Assumes nothing.
 use mathlib.Core.Bool.{Bool, true, false, _&&_, cond}
-use mathlib.Core.Option.{Option, none, some}
-use mathlib.Core.List.{List, [], _∷_, _++_}
+use mathlib.Core.Option.{none, some}
+use mathlib.Core.List.{List, [], _∷_}
 use Prim.Native.Nat.{ℕ, zero, suc, _+_, _-_, _*_, _/_, _%_}
 use lib.Dec.{eqb, ltb, leb}
 use Rattle.octets.specs.Bytes.{Reader, _>>=_, need, le, getLe}

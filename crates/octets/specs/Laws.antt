@@ -1,18 +1,16 @@
 -- Laws of the definitions in Bytes: parts and numbers are read back as they were written, and nothing else is read.
 -- Assumes nothing.
 use mathlib.Core.Path.{_≡_, refl, sym, _∙_, ap, ap₂}
-use mathlib.Core.Bool.{Bool, true, false, _&&_}
-use mathlib.Core.Option.{Option, none, some, Option·none-ne-some}
-use mathlib.Core.List.{List, [], _∷_, _++_, append-assoc}
+use mathlib.Core.Option.{none, some, Option·none-ne-some}
+use mathlib.Core.List.{List, [], _∷_, _++_}
 use Prim.Native.Nat.{ℕ, zero, suc, _+_, _-_, _*_, _/_, _%_, _^_, _≤_, _<_}
 use native.Mathlib.Omega.{arith}
 use native.Mathlib.Nat.{pow-suc, div-div-eq-div-mul, mul-comm, mul-assoc}
-use native.Mathlib.Numerals.{add-one, sub-one}
+use native.Mathlib.Numerals.{sub-one}
 use lib.Dec.{T, eqb, ltb, eqb→eq, eqb-refl, ltb→lt, lt→ltb}
-use lib.ListN.{length, take, drop, getD, length-take, length-drop, drop-of-length-le}
-use lib.Seq.{drop-cons, drop-drop, take-at, take-add, length-take-le, drop-nil, take-nil}
-use Rattle.octets.specs.Bytes.{Reader, _>>=_, need, every, isByte, cut, begins, le, value, getLe, leAt}
-use Rattle.octets.specs.Tests.{and-left, and-right, and-both, took, gave, need-inv, need-true, need-none, test-true}
+use lib.ListN.{length, take, drop}
+use Rattle.octets.specs.Bytes.{_>>=_, every, isByte, cut, begins, le, value, getLe}
+use Rattle.octets.specs.Tests.{and-left, and-right, and-both, took, gave, need-inv, need-true}
 use Rattle.octets.specs.Exact.{Exact}
 
 -- ── Parts

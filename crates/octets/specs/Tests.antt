@@ -1,13 +1,13 @@
 -- Tests and options taken apart: what a test that passed says, and what a reader that succeeded read.
 -- Assumes nothing.
-use mathlib.Core.Path.{_≡_, refl, sym, _∙_, ap}
+use mathlib.Core.Path.{_≡_, refl, ap}
 use mathlib.Core.Bool.{Bool, true, false, _&&_, _||_, not, cond}
 use mathlib.Core.Option.{Option, none, some, Option·none-ne-some, Option·some-injective}
-use mathlib.Core.List.{List, [], _∷_, _++_}
-use Prim.Native.Nat.{ℕ, _+_, _≤_, _<_}
+use mathlib.Core.List.{List}
+use Prim.Native.Nat.{ℕ, _≤_, _<_}
 use native.Mathlib.Omega.{arith}
 use lib.Dec.{T, not-T, eqb, ltb, eqb→eq, ltb→lt}
-use Rattle.octets.specs.Bytes.{_>>=_, need, every}
+use Rattle.octets.specs.Bytes.{_>>=_, need}
 
 -- ── Tests
 pub and-left : (a b : Bool) → T (a && b) → T a

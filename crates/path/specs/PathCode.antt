@@ -1,7 +1,7 @@
 -- Both directions of paths on the code: `path_at` and `put_path_text` where the bytes of a path text stand, and what they read where they read something.
 -- Assumes nothing.
 use mathlib.Core.Path.{_≡_, refl, sym, _∙_, ap}
-use mathlib.Core.Option.{Option, some, Option·elim}
+use mathlib.Core.Option.{some, Option·elim}
 use mathlib.Core.List.{List, _++_}
 use Prim.Native.Nat.{ℕ, _+_, _-_, _≤_}
 use native.Mathlib.Omega.{arith}
@@ -10,7 +10,7 @@ use lib.ListN.{length, drop, length-append, length-drop}
 use lib.Seq.{drop-drop, drop-append-seam}
 use Rattle.octets.specs.Bytes.{_>>=_}
 use Rattle.octets.specs.Tests.{took, gave}
-use Rattle.octets.specs.Reading.{Reads, Got, got, reads, reads-determined}
+use Rattle.octets.specs.Reading.{Reads, reads, reads-determined}
 use Rattle.octets.specs.declared.Num.{Num}
 use Rattle.octets.specs.declared.Num.the-variants as num
 use Rattle.path.specs.Path.{isPath, pathBytes, getPathText, getPathLength, pathText}

@@ -1,15 +1,15 @@
 -- What each step of the code shows of its answer: the tests, the sizes, the sealing, the outcome.
 -- Assumes nothing.
 use mathlib.Core.Path.{_≡_, refl, sym, ap, ap₂, _∙_}
-use mathlib.Core.Bool.{Bool, true, false, _&&_, _||_, not, cond}
+use mathlib.Core.Bool.{Bool, true, false, _||_, cond}
 use mathlib.Core.List.{List, [], _∷_, _++_, flatten, append-assoc, append-nil}
 use Prim.Native.Nat.{ℕ, suc, _+_, _-_, _≤_, _<_}
 use native.Mathlib.Omega.{arith}
 use lib.Dec.{eqb, leb, ltb, leb→le}
-use lib.ListN.{length, take, drop, set, getD, length-append, length-take, length-drop, length-set, take-append-drop, drop-of-length-le, length-replicate}
+use lib.ListN.{length, take, drop, set, getD, length-append, length-take, length-drop, take-append-drop, drop-of-length-le, length-replicate}
 use lib.Seq.{drop-drop, take-append-le, drop-append-le, take-at, drop-at, length-take-le, set-set, getD-set-same, take-all}
-use borrow.Author.Tests.{leb-true, ltb-false, lt-ltb, le-ltb, le-leb, lt-leb, eq-eqb, ne-eqb}
-use Rattle.octets.specs.Bytes.{le, leAt, laid}
+use borrow.Author.Tests.{ltb-false, lt-ltb, le-ltb, le-leb, lt-leb, eq-eqb, ne-eqb}
+use Rattle.octets.specs.Bytes.{le}
 use Rattle.octets.specs.Laws.{le-length}
 use Rattle.octets.specs.Filling.{Wrote, Parts, lent, returned, Filling, filling-start, filling-set, wrote-length, last-wrote, last-fits, last-same}
 use Rattle.octets.specs.Tests.{and-left, and-right, true-test}
@@ -20,7 +20,6 @@ use Rattle.sdt.specs.Table.{measured, sealed, newTable, appended, overwr
 use Rattle.sdt.specs.Edit.{Outcome, refused, accepted, sound, writable, sized, newOf, appendOf, writeOf}
 use Rattle.sdt.specs.Answer.{Left, Sealed, zeros, sizeNumber, header}
 use Rattle.sdt.specs.declared.Sdt.{Sdt}
-use Rattle.sdt.specs.declared.Edit.{Edit}
 
 -- ── The tests
 module _ (t : Sdt) (b : List ℕ) where

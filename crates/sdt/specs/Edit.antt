@@ -1,11 +1,11 @@
 -- The edits of a growing table: which are refused, with what number, and what is left in the record and in the buffer.
 -- Document 01, "The growing table" and "Refusal numbers" (20, 23, 12, 14, in this order). `Sdt` of the crate.
 -- Assumes nothing.
-use mathlib.Core.Bool.{Bool, true, false, _&&_, _||_, not, cond}
+use mathlib.Core.Bool.{Bool, _&&_, _||_, not, cond}
 use mathlib.Core.List.{List}
 use Prim.Native.Nat.{ℕ, _+_}
 use lib.Dec.{eqb, leb, ltb}
-use lib.ListN.{length, take, drop, getD}
+use lib.ListN.{length, take, getD}
 use Rattle.octets.specs.Bytes.{leAt, laid}
 use Rattle.sdt.specs.Table.{newTable, appended, overwritten}
 use Rattle.sdt.specs.declared.Sdt.{Sdt}

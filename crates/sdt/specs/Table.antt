@@ -1,7 +1,7 @@
 -- A table as bytes: the header of 36 bytes, in which the length stands at 4 to 7 and the checksum at 9, and what follows it.
 -- Document 01, "Bytes" (Table) and "The growing table"; ACPI 6.4, 5.2.6 (System Description Table Header).
 -- Assumes nothing.
-use mathlib.Core.List.{List, [], _∷_, _++_}
+use mathlib.Core.List.{List, _∷_, _++_}
 use Prim.Native.Nat.{ℕ, _+_, _-_}
 use lib.ListN.{length, take, drop, set, replicate}
 use Rattle.octets.specs.Bytes.{le}

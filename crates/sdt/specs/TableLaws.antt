@@ -1,15 +1,14 @@
 -- Laws of a table as bytes: a sealed one sums to 0 and has its own length in its header, and sealing forgets what stood in both places.
 -- Assumes nothing.
-use mathlib.Core.Path.{_≡_, refl, sym, ap, _∙_}
-use mathlib.Core.List.{List, [], _∷_, _++_, append-assoc}
-use Prim.Native.Nat.{ℕ, _+_, _-_, _≤_, _<_, _^_}
+use mathlib.Core.Path.{_≡_, refl, _∙_}
+use mathlib.Core.List.{List, _++_}
+use Prim.Native.Nat.{ℕ, _≤_}
 use native.Mathlib.Omega.{arith}
-use lib.ListN.{length, take, drop, set, getD, replicate, length-append, length-take, length-drop, length-set, length-replicate}
-use lib.Seq.{drop-drop, take-at, drop-at, length-take-le, set-set, take-set-le, drop-set-lt, take-append-le, drop-append-le, set-append-left}
-use Rattle.octets.specs.Bytes.{le, value, leAt}
-use Rattle.octets.specs.Laws.{le-length, value-le}
+use lib.ListN.{length, take, drop, set, length-append, length-take, length-drop, length-set}
+use Rattle.octets.specs.Bytes.{le}
+use Rattle.octets.specs.Laws.{le-length}
 use Rattle.octets.specs.Sum.{byteSum, negated, sums-to-zero}
-use Rattle.sdt.specs.Table.{opened, measured, sealed, newTable, appended, overwritten}
+use Rattle.sdt.specs.Table.{measured, sealed}
 
 pub measured-is : (t : List ℕ) → take 4 t ++ (le 4 (length t) ++ drop 8 t) ≡ measured t
 unfolding measured

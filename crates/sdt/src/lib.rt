@@ -1,7 +1,7 @@
 // The growing table of `sdt.rs`, in place: a record of its length and checksum beside a lent buffer.
 ghost use mathlib.Core.Path.{_≡_};
 ghost use mathlib.Core.Bool.{_||_};
-ghost use Prim.Native.Nat.{ℕ, _+_, _≤_, _<_};
+ghost use Prim.Native.Nat.{_+_, _≤_, _<_};
 ghost use lib.Dec.{eqb, leb};
 ghost use lib.ListN.{length};
 ghost use Rattle.sdt.specs.Edit.{sound, writable, appendOf, writeOf};

@@ -1,10 +1,10 @@
 -- The term file: a header of 60 bytes, then records, arities and pool, which touch; and when its layout is refused (1, 2).
 -- Document 01, "The term file" and "Refusal numbers".
 -- Assumes nothing.
-use mathlib.Core.Bool.{Bool, true, false, _&&_, _||_, not, cond}
+use mathlib.Core.Bool.{Bool, _&&_, not, cond}
 use mathlib.Core.List.{List, [], _∷_}
 use Prim.Native.Nat.{ℕ, _+_, _*_}
-use lib.Dec.{eqb, leb, ltb}
+use lib.Dec.{eqb, leb}
 use lib.ListN.{length, take, drop, getD}
 use Rattle.octets.specs.Bytes.{begins, leAt}
 use Rattle.term.specs.declared.Layout.{Layout}

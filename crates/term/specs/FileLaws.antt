@@ -1,15 +1,15 @@
 -- Laws of the file's layout, for the code that tests it. Assumes nothing.
-use mathlib.Core.Path.{_≡_, refl, sym, _∙_}
-use mathlib.Core.Bool.{Bool, true, false, _&&_, not}
+use mathlib.Core.Path.{_≡_, refl}
+use mathlib.Core.Bool.{Bool, true, false, _&&_}
 use mathlib.Core.List.{List}
 use Prim.Native.Nat.{ℕ, _+_, _*_, _≤_, _<_}
 use native.Mathlib.Omega.{arith}
-use lib.Dec.{eqb, leb}
+use lib.Dec.{eqb}
 use lib.ListN.{length, getD}
 use borrow.Author.Tests.{le-leb, lt-leb}
 use Rattle.octets.specs.Bytes.{begins}
 use Rattle.octets.specs.Reading.{Digits, digits-small}
-use Rattle.term.specs.File.{magic, touching, laidOut, few, refusedBy, layoutOf, recordCount, recordOffset, arityCount, arityOffset, poolLength, poolOffset}
+use Rattle.term.specs.File.{magic, touching, laidOut, few, refusedBy, layoutOf, arityOffset, poolOffset}
 use Rattle.term.specs.declared.Layout.{Layout}
 
 -- a number of the header fits 32 bits

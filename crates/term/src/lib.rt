@@ -1,6 +1,6 @@
 // The term file: its layout, its records and their texts.
 ghost use mathlib.Core.Path.{_≡_};
-ghost use Prim.Native.Nat.{ℕ, _+_, _*_, _/_, _≤_, _<_};
+ghost use Prim.Native.Nat.{_+_, _*_, _/_, _≤_, _<_};
 ghost use lib.ListN.{length};
 ghost use Rattle.term.specs.File.{touching, laidOut, few, refusedBy, layoutOf};
 ghost use Rattle.term.specs.Record.{recordAt, textAt};

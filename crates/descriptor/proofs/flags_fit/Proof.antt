@@ -1,6 +1,6 @@
 -- `descriptor::flags_fit` meets its contract, by the type. Assumes nothing.
 use mathlib.Core.Path.{refl}
-use borrow.Author.Tests.{eq-eqb, ne-eqb}
+use borrow.Author.Tests.{ne-eqb}
 use Rattle.descriptor.specs.Descriptor.{flagsFit}
 use Rattle.descriptor.proofs.flags_fit.Statement.{statement}
 use Rattle.descriptor.proofs.flags_fit.Tie as tie

@@ -1,7 +1,6 @@
 -- `descriptor::range_length` meets its contract: the text is wide enough, and the difference fits. Assumes nothing.
 use mathlib.Core.Path.{refl}
 use native.Mathlib.Omega.{arith}
-use borrow.Author.Needs.{needs}
 use Rattle.descriptor.specs.Descriptor.{rangeLength}
 use Rattle.descriptor.proofs.range_length.Statement.{statement}
 use Rattle.descriptor.proofs.range_length.Tie as tie

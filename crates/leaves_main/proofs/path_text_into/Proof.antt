@@ -1,5 +1,4 @@
 -- `leaves_main::path_text_into` has room for the text whose length was read. Assumes nothing.
-use mathlib.Core.Path.{sym, _∙_}
 use native.Mathlib.Omega.{arith}
 use borrow.Author.Needs.{needs}
 use Rattle.octets.specs.Reading.{got}
