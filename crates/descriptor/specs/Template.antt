@@ -1,5 +1,5 @@
 -- A resource template: the buffer of its descriptors' bytes and the end tag, whose checksum byte is 0, which is always valid.
--- Document 01, "Bytes" (Template); ACPI 6.4, 6.4.2.9 (End Tag) and 19.6.119 (ResourceTemplate).
+-- Document 01, "Bytes" (Template); ACPI 6.4, 6.4.2.9 (End Tag) and 19.6 (ResourceTemplate).
 -- Assumes nothing.
 use mathlib.Core.List.{List, [], _∷_, _++_}
 use Prim.Native.Nat.{ℕ, _+_}

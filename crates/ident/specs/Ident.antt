@@ -1,5 +1,5 @@
 -- Identifiers spelled as text: an EISA id, which is an integer, and a UUID, which is a buffer of 16 bytes.
--- Document 01, "Bytes" (EISA, UUID); ACPI 6.4, 19.6.36 (EISAID) and 19.6.142 (ToUUID). `EISAName` and `Uuid` of the crate.
+-- Document 01, "Bytes" (EISA, UUID); ACPI 6.4, 19.6 (EISAID, ToUUID). `EISAName` and `Uuid` of the crate.
 -- Assumes nothing.
 use mathlib.Core.Bool.{Bool, _&&_, _||_, cond}
 use mathlib.Core.List.{List, [], _∷_, map, reverse}
