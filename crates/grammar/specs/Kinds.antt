@@ -1,171 +1,196 @@
--- The kinds of terms, as rows of one table: checker, encoder, reader and lister read the same rows.
+-- The kinds of terms, as rows of one table: checker, encoder, reader and lister read the same rows, and the code holds the same list.
 -- Document 01, "Kinds" and "Bytes"; ACPI 6.4, 20.2.5 (Term Objects Encoding) and 20.3 (AML Byte Stream Byte Values).
 -- Assumes nothing.
-use mathlib.Core.Bool.{Bool, true, false, cond}
+use mathlib.Core.Bool.{Bool, true, false, _||_, cond}
 use mathlib.Core.Option.{Option, none, some}
 use mathlib.Core.List.{List, [], _∷_, _++_, map}
-use Prim.Native.Nat.{ℕ, _/_, _%_, _^_, _-_}
-use lib.Dec.{eqb, ltb}
+use Prim.Native.Nat.{ℕ, _+_, _-_, _*_, _/_, _%_, _^_}
+use lib.Dec.{eqb, ltb, leb}
+use Rattle.octets.specs.Bytes.{le}
+use Rattle.grammar.specs.declared.Place.{Place}
+use Rattle.grammar.specs.declared.Place.the-variants.{InList, Operand, Datum, Element, FieldEntry, Descriptor}
+use Rattle.grammar.specs.declared.Places.{Places}
+use Rattle.grammar.specs.declared.Places.the-variants.{Lists, ListsOperands, Names, Operands, Data, FieldEntries, Descriptors}
+use Rattle.grammar.specs.declared.Text.{Text}
+use Rattle.grammar.specs.declared.Text.the-variants.{Unused, PathText, SegmentText, Ascii, AnyBytes, EisaText, UuidText, DescriptorText}
+use Rattle.grammar.specs.declared.Numbers.{Numbers}
+use Rattle.grammar.specs.declared.Numbers.the-variants.{Digits, Swapped, FieldFlags, IntegerX, LengthX}
+use Rattle.grammar.specs.declared.Rest.{Rest}
+use Rattle.grammar.specs.declared.Rest.the-variants.{Nothing, Arity, Listed, Counted, Measured}
+use Rattle.grammar.specs.declared.Row.{Row}
 
--- where a term may stand: in a list (L), as an operand or a target (V), as data (D); as a package's element, a field's entry, a template's descriptor
-pub data Place : Type 0 where
-  inList operand datum element entry resource : Place
+-- ── Places
+-- where a kind may stand: a list (L), an operand or target (V), data (D). Data may be an operand and a package's element;
+-- a name may be an element too, in which place it has no children
+unfoldable pub rank : Place → ℕ
+rank InList = 0
+rank Operand = 1
+rank Datum = 2
+rank Element = 3
+rank FieldEntry = 4
+rank Descriptor = 5
 
--- what a kind's text is
-pub data Text : Type 0 where
-  noText : Text  -- unused
-  path segment : Text
-  string : Text  -- bytes 01-7F, and 00 behind them
-  anyBytes : Text  -- to the end of the body
-  eisaText uuidText : Text
-  resourceText : Text  -- a descriptor's, by its own row
+unfoldable pub is : Place → Place → Bool
+is p q = eqb (rank p) (rank q)
 
--- how a and x are written
-pub data Numbers : Type 0 where
-  digits : ℕ → ℕ → Numbers  -- so many bytes, the low one first, of this number and a and x: a below x ..
-  swapped : ℕ → Numbers  -- .. or x below a
-  fieldFlags : Numbers  -- a as a byte: access 0-5, plus 16 for lock, plus 32 times an update rule 0-2
-  integerX : Numbers  -- x as an integer
-  lengthX : Numbers  -- x as the length of a field entry
+unfoldable pub stands : Places → Place → Bool
+stands Lists p = is p InList
+stands ListsOperands p = is p InList || is p Operand
+stands Names p = is p InList || is p Operand || is p Element
+stands Operands p = is p Operand
+stands Data p = is p Operand || is p Datum || is p Element
+stands FieldEntries p = is p FieldEntry
+stands Descriptors p = is p Descriptor
 
--- how many children stand before a list, and where
-pub data Operands : Type 0 where
-  fixed : List Place → Operands  -- one in each of these places
-  arity : Place → Operands  -- as many as the path's arity
-  counted : Place → Operands  -- 0 to 255, with their number before them
-  measured : Place → Operands  -- any number, with the size of their bytes before them and the end tag behind
+-- the place of child j: an operand's, or that of the children behind the operands
+unfoldable pub childPlace : Row → ℕ → Place
+childPlace r j = cond (ltb j (r .operands)) (r .operand) (r .place)
 
-pub record Row : Type 0 where
-  pub kind : ℕ
-  pub op : List ℕ  -- the opcode's bytes
-  pub boxed : Bool  -- a PkgLength behind the opcode
-  pub text : Text
-  pub numbers : Numbers
-  pub aMost : ℕ  -- the largest a
-  pub xMost : ℕ  -- the largest x
-  pub last : Bool  -- text and numbers stand behind the children
-  pub operands : Operands
-  pub list : Option Place  -- then a list in this place, to the end of the body
-  pub places : List Place  -- where the kind may stand
+-- ── Children
+-- the number of children: the operands, and behind them what the kind has there
+unfoldable pub counts : Rest → ℕ → ℕ → ℕ → Bool
+counts Nothing operands args n = eqb n operands
+counts Arity operands args n = eqb n args
+counts Listed operands args n = leb operands n
+counts Counted operands args n = leb n 255
+counts Measured operands args n = true
 
--- a kind is its opcode: one byte, or two, the high one first
-abbrev pub opcode : ℕ → List ℕ
-opcode k = cond (ltb k 256) (k ∷ []) (k / 256 ∷ k % 256 ∷ [])
+-- as a package's element a name has no children, whatever its arity
+unfoldable pub argsAt : Place → ℕ → ℕ
+argsAt place args = cond (is place Element) 0 args
+
+-- ── Opcodes: one byte, or two, the high one of the kind first
+unfoldable pub opcode : Row → List ℕ
+opcode r = le (r .ops) (r .op)
 
 -- ── Rows by what is written, in the order in which it is written
-abbrev pub row : ℕ → List ℕ → Bool → Text → Numbers → ℕ → ℕ → Bool → Operands → Option Place → List Place → Row
-row kind op boxed text numbers aMost xMost last operands list places = record {
+abbrev pub row : ℕ → ℕ → ℕ → Bool → Text → Numbers → ℕ → ℕ → Bool → ℕ → Place → Rest → Place → Places → Row
+row kind ops op boxed text numbers alimit xlimit last operands operand rest place places = record {
   kind = kind;
+  ops = ops;
   op = op;
   boxed = boxed;
   text = text;
   numbers = numbers;
-  aMost = aMost;
-  xMost = xMost;
+  alimit = alimit;
+  xlimit = xlimit;
   last = last;
   operands = operands;
-  list = list;
+  operand = operand;
+  rest = rest;
+  place = place;
   places = places;
 }
 
+-- a kind is its opcode
+abbrev pub opLength : ℕ → ℕ
+opLength k = cond (ltb k 256) 1 2
+
+abbrev pub opOf : ℕ → ℕ
+opOf k = cond (ltb k 256) k (k / 256 + 256 * (k % 256))
+
 abbrev pub noNumbers : Numbers
-noNumbers = digits 0 0
+noNumbers = Digits 0 0
 
--- opcode, path, numbers, operands
-abbrev pub named : ℕ → Numbers → ℕ → List Place → List Place → Row
-named k n aMost ops places = row k (opcode k) false path n aMost 0 false (fixed ops) none places
+-- opcode, path, numbers, n children in a place
+abbrev pub named : ℕ → Numbers → ℕ → ℕ → Place → Places → Row
+named k numbers alimit n p places = row k (opLength k) (opOf k) false PathText numbers alimit 0 false n p Nothing p places
 
--- opcode, length, path, numbers, list
+-- opcode, length, path, numbers, a list in a place
 abbrev pub scope : ℕ → Numbers → ℕ → ℕ → Place → Row
-scope k n aMost xMost p = row k (opcode k) true path n aMost xMost false (fixed []) (some p) (inList ∷ [])
+scope k numbers alimit xlimit p = row k (opLength k) (opOf k) true PathText numbers alimit xlimit false 0 p Listed p Lists
 
--- opcode, operands, path
-abbrev pub createField : ℕ → List Place → Row
-createField k ops = row k (opcode k) false path noNumbers 0 0 true (fixed ops) none (inList ∷ [])
+-- opcode, n operands, path
+abbrev pub createField : ℕ → ℕ → Row
+createField k n = row k (opLength k) (opOf k) false PathText noNumbers 0 0 true n Operand Nothing Operand Lists
 
--- opcode, length, operands, list
-abbrev pub block : ℕ → List Place → Row
-block k ops = row k (opcode k) true noText noNumbers 0 0 false (fixed ops) (some inList) (inList ∷ [])
+-- opcode, length, n operands, a list
+abbrev pub block : ℕ → ℕ → Row
+block k n = row k (opLength k) (opOf k) true Unused noNumbers 0 0 false n Operand Listed InList Lists
 
--- opcode, operands
-abbrev pub operator : List Place → List Place → ℕ → Row
-operator ops places k = row k (opcode k) false noText noNumbers 0 0 false (fixed ops) none places
+-- opcode, n operands
+abbrev pub operator : ℕ → Places → ℕ → Row
+operator n places k = row k (opLength k) (opOf k) false Unused noNumbers 0 0 false n Operand Nothing Operand places
 
--- text and numbers alone
-abbrev pub bare : ℕ → List ℕ → Text → Numbers → ℕ → ℕ → Operands → List Place → Row
-bare k op t n aMost xMost ops places = row k op false t n aMost xMost false ops none places
+-- text and numbers, with no opcode before them, or with one
+abbrev pub plain : ℕ → Text → Numbers → ℕ → ℕ → Places → Row
+plain k text numbers alimit xlimit places = row k 0 0 false text numbers alimit xlimit false 0 Operand Nothing Operand places
 
--- what is data may stand as an operand, as data and as a package's element
-abbrev pub dataPlaces : List Place
-dataPlaces = operand ∷ datum ∷ element ∷ []
+abbrev pub marked : ℕ → Text → Numbers → ℕ → Places → Row
+marked k text numbers xlimit places = row k 1 (k % 256) false text numbers 0 xlimit false 0 Operand Nothing Operand places
 
--- opcode, length, children, text
-abbrev pub container : ℕ → List ℕ → Text → Operands → Row
-container k op t ops = row k op true t noNumbers 0 0 true ops none dataPlaces
+-- opcode, length, n operands, the other children, text
+abbrev pub container : ℕ → ℕ → ℕ → Rest → Place → Text → Row
+container k op n rest p text = row k 1 op true text noNumbers 0 0 true n Operand rest p Data
 
 -- ── The table, in document 01's order
-abbrev pub anywhere : List Place
-anywhere = inList ∷ operand ∷ []
-
-abbrev pub oneOperand : List Place
-oneOperand = operand ∷ []
-
-abbrev pub twoOperands : List Place
-twoOperands = operand ∷ oneOperand
-
-abbrev pub threeOperands : List Place
-threeOperands = operand ∷ twoOperands
-
-unfoldable pub kinds : List Row
-kinds =
-    named 0x08 noNumbers 0 (datum ∷ []) (inList ∷ [])
-    ∷ scope 0x10 noNumbers 0 0 inList
-    ∷ scope 0x5B82 noNumbers 0 0 inList
-    ∷ scope 0x14 (digits 1 0) 7 1 inList
-    ∷ scope 0x5B84 (swapped 3) 65535 255 inList
-    ∷ scope 0x5B81 fieldFlags 255 0 entry
-    ∷ named 0x5B80 (digits 1 0) 9 twoOperands (inList ∷ [])
-    ∷ named 0x5B01 (digits 1 0) 15 [] (inList ∷ [])
-    ∷ named 0x5B23 (digits 2 0) 65535 [] anywhere
-    ∷ named 0x5B27 noNumbers 0 [] (inList ∷ [])
-    ∷ createField 0x5B13 threeOperands
-    ∷ createField 0x8A twoOperands
-    ∷ createField 0x8F twoOperands
-    ∷ block 0xA0 oneOperand
-    ∷ block 0xA2 oneOperand
-    ∷ block 0xA1 []
-    ∷ operator oneOperand (inList ∷ []) 0xA4
-    ∷ operator twoOperands (inList ∷ []) 0x86
-    ∷ operator twoOperands anywhere 0x70
-    ∷ (map (operator oneOperand anywhere) (0x83 ∷ 0x87 ∷ 0x8E ∷ [])
-    ++ (map (operator twoOperands anywhere) (0x93 ∷ 0x94 ∷ 0x95 ∷ 0x9293 ∷ 0x9294 ∷ 0x9295 ∷ 0x96 ∷ 0x99 ∷ [])
-    ++ (map (operator threeOperands anywhere) (0x72 ∷ 0x73 ∷ 0x74 ∷ 0x77 ∷ 0x79 ∷ 0x7A ∷ 0x7B ∷ 0x7C ∷ 0x7D ∷ 0x7E ∷ 0x7F ∷ 0x84 ∷ 0x85 ∷ 0x88 ∷ 0x9C ∷ [])
-    ++ (operator (operand ∷ threeOperands) anywhere 0x9E
-    ∷ bare 0x2E [] path noNumbers 0 0 (arity operand) (inList ∷ operand ∷ element ∷ [])
-    ∷ bare 0x60 [] noText (digits 1 0x60) 7 0 (fixed []) oneOperand
-    ∷ bare 0x68 [] noText (digits 1 0x68) 6 0 (fixed []) oneOperand
-    ∷ bare 0x0E [] noText integerX 0 (2 ^ 64 - 1) (fixed []) dataPlaces
-    ∷ bare 0xFF (opcode 0xFF) noText noNumbers 0 0 (fixed []) dataPlaces
-    ∷ bare 0x0D (opcode 0x0D) string noNumbers 0 0 (fixed []) dataPlaces
-    ∷ container 0x11 (opcode 0x11) anyBytes (fixed oneOperand)
-    ∷ container 0x12 (opcode 0x12) noText (counted element)
-    ∷ container 0x13 (opcode 0x13) noText (fixed oneOperand)
-    ∷ bare 0xF000 (0x00 ∷ []) noText lengthX 0 268435455 (fixed []) (entry ∷ [])
-    ∷ bare 0xF001 [] segment lengthX 0 268435455 (fixed []) (entry ∷ [])
+unfoldable pub normalKinds : List Row
+normalKinds =
+    named 0x08 noNumbers 0 1 Datum Lists
+    ∷ scope 0x10 noNumbers 0 0 InList
+    ∷ scope 0x5B82 noNumbers 0 0 InList
+    ∷ scope 0x14 (Digits 1 0) 7 1 InList
+    ∷ scope 0x5B84 (Swapped 3) 65535 255 InList
+    ∷ scope 0x5B81 FieldFlags 255 0 FieldEntry
+    ∷ named 0x5B80 (Digits 1 0) 9 2 Operand Lists
+    ∷ named 0x5B01 (Digits 1 0) 15 0 Operand Lists
+    ∷ named 0x5B23 (Digits 2 0) 65535 0 Operand ListsOperands
+    ∷ named 0x5B27 noNumbers 0 0 Operand Lists
+    ∷ createField 0x5B13 3
+    ∷ createField 0x8A 2
+    ∷ createField 0x8F 2
+    ∷ block 0xA0 1
+    ∷ block 0xA2 1
+    ∷ block 0xA1 0
+    ∷ operator 1 Lists 0xA4
+    ∷ operator 2 Lists 0x86
+    ∷ operator 2 ListsOperands 0x70
+    ∷ (map (operator 1 ListsOperands) (0x83 ∷ 0x87 ∷ 0x8E ∷ [])
+    ++ (map (operator 2 ListsOperands) (0x93 ∷ 0x94 ∷ 0x95 ∷ 0x9293 ∷ 0x9294 ∷ 0x9295 ∷ 0x96 ∷ 0x99 ∷ [])
+    ++ (map (operator 3 ListsOperands) (0x72 ∷ 0x73 ∷ 0x74 ∷ 0x77 ∷ 0x79 ∷ 0x7A ∷ 0x7B ∷ 0x7C ∷ 0x7D ∷ 0x7E ∷ 0x7F ∷ 0x84 ∷ 0x85 ∷ 0x88 ∷ 0x9C ∷ [])
+    ++ (operator 4 ListsOperands 0x9E
+    ∷ row 0x2E 0 0 false PathText noNumbers 0 0 false 0 Operand Arity Operand Names
+    ∷ plain 0x60 Unused (Digits 1 0x60) 7 0 Operands
+    ∷ plain 0x68 Unused (Digits 1 0x68) 6 0 Operands
+    ∷ plain 0x0E Unused IntegerX 0 (2 ^ 64 - 1) Data
+    ∷ marked 0xFF Unused noNumbers 0 Data
+    ∷ marked 0x0D Ascii noNumbers 0 Data
+    ∷ container 0x11 0x11 1 Nothing Operand AnyBytes
+    ∷ container 0x12 0x12 0 Counted Element Unused
+    ∷ container 0x13 0x13 1 Nothing Operand Unused
+    ∷ marked 0xF000 Unused LengthX 268435455 FieldEntries
+    ∷ plain 0xF001 SegmentText LengthX 0 268435455 FieldEntries
     ∷ []))))
 
--- other ways to write an integer or a buffer, and the descriptors of a template
+-- other ways to write an integer or a buffer, and the descriptors of a template, whose fields have rows of their own
 unfoldable pub otherKinds : List Row
 otherKinds =
-    bare 0xE001 [] eisaText noNumbers 0 0 (fixed []) dataPlaces
-    ∷ bare 0xE002 [] uuidText noNumbers 0 0 (fixed []) dataPlaces
-    ∷ container 0xE003 (opcode 0x11) noText (measured resource)
-    ∷ map (λ k. bare k [] resourceText noNumbers 65535 (2 ^ 64 - 1) (fixed []) (resource ∷ [])) (0xE047 ∷ 0xE082 ∷ 0xE086 ∷ 0xE089 ∷ 0xE088 ∷ 0xE087 ∷ 0xE08A ∷ [])
+    plain 0xE001 EisaText noNumbers 0 0 Data
+    ∷ plain 0xE002 UuidText noNumbers 0 0 Data
+    ∷ container 0xE003 0x11 0 Measured Descriptor Unused
+    ∷ map (λ k. plain k DescriptorText noNumbers 65535 (2 ^ 64 - 1) Descriptors) (0xE047 ∷ 0xE082 ∷ 0xE086 ∷ 0xE089 ∷ 0xE088 ∷ 0xE087 ∷ 0xE08A ∷ [])
 
--- a kind that is in no row stands nowhere
+unfoldable pub kinds : List Row
+kinds = normalKinds ++ otherKinds
+
+-- the row of a kind, if it is known
+unfoldable pub find : ℕ → List Row → Option Row
+find k [] = none
+find k (r ∷ rs) = cond (eqb k (r .kind)) (some r) (find k rs)
+
+unfoldable pub rowOf : ℕ → Option Row
+rowOf k = find k kinds
+
+-- where the kind stands in the table; behind its end, if it is not known
+unfoldable pub position : ℕ → List Row → ℕ
+position k [] = 0
+position k (r ∷ rs) = cond (eqb k (r .kind)) 0 (1 + position k rs)
+
+-- what stands where there is no row
 abbrev pub noRow : Row
-noRow = bare 0 [] noText noNumbers 0 0 (fixed []) []
+noRow = row 0 0 0 false Unused noNumbers 0 0 false 0 InList Nothing InList Lists
 
-unfoldable pub find : ℕ → List Row → Row
-find k [] = noRow
-find k (r ∷ rs) = cond (eqb k (r .kind)) r (find k rs)
+-- the row of a kind that is known
+unfoldable pub rowIn : Option Row → Row
+rowIn none = noRow
+rowIn (some r) = r

@@ -88,7 +88,7 @@ fn all_fit(hex: bool, t: &[u8]) -> bool
     true
 }
 
-fn is_eisa(t: &[u8]) -> bool
+pub fn is_eisa(t: &[u8]) -> bool
     ensures { λ r. ⌜ r ≡ isEisa (now (t .entry)) ⌝ }
 {
     if t.len() != 7 {

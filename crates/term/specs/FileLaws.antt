@@ -1,15 +1,16 @@
 -- Laws of the file's layout, for the code that tests it. Assumes nothing.
 use mathlib.Core.Path.{_≡_, refl}
-use mathlib.Core.Bool.{Bool, true, false, _&&_}
+use mathlib.Core.Bool.{Bool, true, false, _&&_, not, cond}
 use mathlib.Core.List.{List}
 use Prim.Native.Nat.{ℕ, _+_, _*_, _≤_, _<_}
 use native.Mathlib.Omega.{arith}
-use lib.Dec.{eqb}
+use lib.Dec.{T, eqb, eqb→eq}
 use lib.ListN.{length, getD}
 use borrow.Author.Tests.{le-leb, lt-leb}
 use Rattle.octets.specs.Bytes.{begins}
+use Rattle.octets.specs.Tests.{and-left, and-right}
 use Rattle.octets.specs.Reading.{Digits, digits-small}
-use Rattle.term.specs.File.{magic, touching, laidOut, few, refusedBy, layoutOf, arityOffset, poolOffset}
+use Rattle.term.specs.File.{magic, touching, laidOut, few, refusedBy, layoutOf, recordCount, arityCount, poolLength, arityOffset, poolOffset}
 use Rattle.term.specs.declared.Layout.{Layout}
 
 -- a number of the header fits 32 bits
@@ -51,3 +52,24 @@ module _ (f : List ℕ) where
     pub layout-done : few f ≡ true → {a p : ℕ} → a ≡ arityOffset f → p ≡ poolOffset f → _≡_ {A = Layout} (record { number = 0; arities = a; pool = p }) (layoutOf f)
     unfolding layoutOf
     layout-done g ea ep = rw (e, g, ea, ep) refl
+
+-- ── Where nothing is refused, the sections lie one behind the other in the file
+abbrev pub Within : List ℕ → Layout → Type 0
+Within f l = (60 ≤ l .arities) × (l .arities ≤ l .pool) × (l .pool ≤ length f)
+
+touching-within : (f : List ℕ) → T (laidOut f) → Within f (record { number = 0; arities = arityOffset f; pool = poolOffset f })
+unfolding laidOut touching
+touching-within f t =
+    let e : arityOffset f ≡ 60 + 24 * recordCount f = eqb→eq (arityOffset f) (60 + 24 * recordCount f) (search (and-left, and-right) depth 10) in
+    let g : poolOffset f ≡ arityOffset f + 8 * arityCount f = eqb→eq (poolOffset f) (arityOffset f + 8 * arityCount f) (search (and-left, and-right) depth 10) in
+    let h : length f ≡ poolOffset f + poolLength f = eqb→eq (length f) (poolOffset f + poolLength f) (search (and-left, and-right) depth 10) in
+    (omega (arith, e), omega (arith, g), omega (arith, h))
+
+pub layout-within : (f : List ℕ) {l : Layout} → l ≡ layoutOf f → l .number ≡ 0 → Within f l
+unfolding layoutOf
+layout-within f e z = rw e (by (laidOut f) (few f) (record { number = 0; arities = arityOffset f; pool = poolOffset f }) (touching-within f) (rw e at z))
+  where
+    by : (a b : Bool) (l : Layout) → (T a → Within f l) → cond (not a) (refusedBy 1) (cond (not b) (refusedBy 2) l) .number ≡ 0 → Within f (cond (not a) (refusedBy 1) (cond (not b) (refusedBy 2) l))
+    by true true l h z = h tt
+    by true false l h z = absurd (omega arith)
+    by false b l h z = absurd (omega arith)

@@ -1,0 +1,5 @@
+pub mod Refusal
+pub mod Walk
+pub mod WalkLaws
+pub mod FaultLaws
+pub mod Accepted

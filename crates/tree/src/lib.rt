@@ -1,0 +1,1 @@
+// Forests that may stand; definitions only.
