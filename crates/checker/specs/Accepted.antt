@@ -8,18 +8,17 @@ use mathlib.Core.List.{List, [], _∷_, _++_, map}
 use Prim.Native.Nat.{ℕ, zero, suc, _-_}
 use native.Mathlib.Omega.{arith}
 use lib.Dec.{T, eqb}
-use lib.ListN.{length}
 use borrow.Author.Tests.{eqb-true, eqb-false, eq-eqb}
 use Rattle.octets.specs.Bytes.{_>>=_}
-use Rattle.octets.specs.Tests.{took₁, and-left, and-right, and-both, test-true, true-test}
+use Rattle.octets.specs.Tests.{took₁, and-left, and-right, and-both}
 use Rattle.grammar.specs.declared.Place.{Place}
 use Rattle.grammar.specs.declared.Place.the-variants.{InList}
 use Rattle.grammar.specs.declared.Row.{Row}
 use Rattle.grammar.specs.Kinds.{stands, childPlace, counts, argsAt, rowOf, rowIn}
-use Rattle.grammar.specs.Forest.{Fields, Forest, nil, node, count, join, Term, split, build}
+use Rattle.grammar.specs.Forest.{Forest, nil, node, count, join, Term, split, build}
 use Rattle.grammar.specs.ForestLaws.{split-join, split-only}
 use Rattle.fields.specs.Fields.{inRange, spelled}
-use Rattle.tree.specs.Fits.{Args, fine, known, termFits, Fits}
+use Rattle.tree.specs.Fits.{fine, known, termFits, Fits}
 use Rattle.term.specs.declared.Record.{Record}
 use Rattle.term.specs.Record.{recordsFrom}
 use Rattle.term.specs.File.{layoutOf}

@@ -1,7 +1,7 @@
 -- When a term file is refused, with which number and at which record: 1, 2, 3; then the first faulty record, with its lowest number
 -- in 4 to 9; then 10. Document 01, "Refusal numbers".
 -- Assumes nothing.
-use mathlib.Core.Bool.{Bool, true, _&&_, _||_, not, cond}
+use mathlib.Core.Bool.{Bool, _&&_, _||_, not, cond}
 use mathlib.Core.Option.{Option, none, some}
 use mathlib.Core.List.{List, [], _∷_, _++_}
 use Prim.Native.Nat.{ℕ, zero, suc, _+_, _-_}

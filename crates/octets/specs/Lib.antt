@@ -5,3 +5,4 @@ pub mod Laws
 pub mod Filling
 pub mod Reading
 pub mod Sum
+pub mod Matches

@@ -18,6 +18,10 @@ pub record Left (r : Edit) (out : List ℕ) (o : Outcome) : Type 0 where
   pub table : r .table ≡ o .table
   pub is : out ≡ o .buffer
 
+-- the same of a record that was changed in place
+abbrev pub Leaves : ℕ → Sdt → List ℕ → Outcome → Type 0
+Leaves n t out o = Left (record { number = n; table = t }) out o
+
 -- the table t is sealed in out, and r is its record
 pub record Sealed (t : List ℕ) (r : Sdt) (out : List ℕ) : Type 0 where
   pub is : out ≡ sealed t

@@ -11,7 +11,7 @@ use lib.Seq.{drop-drop, take-append-le, drop-append-le, take-at, drop-at, length
 use borrow.Author.Tests.{ltb-false, lt-ltb, le-ltb, le-leb, lt-leb, eq-eqb, ne-eqb}
 use Rattle.octets.specs.Bytes.{le}
 use Rattle.octets.specs.Laws.{le-length}
-use Rattle.octets.specs.Filling.{Wrote, Parts, lent, returned, Filling, filling-start, filling-set, wrote-length, last-wrote, last-fits, last-same}
+use Rattle.octets.specs.Filling.{Wrote, Parts, Writing, writing-start, writing-end, lent, returned, Filling, filling-start, filling-set, wrote-length, last-wrote, last-fits, last-same}
 use Rattle.octets.specs.Tests.{and-left, and-right, true-test}
 use Rattle.sdt.specs.TableLaws.{measured-is, sealed-is, measured-length, sealed-length}
 use Rattle.octets.specs.Reading.{Digits}
@@ -175,10 +175,6 @@ module _ (identity : List ℕ) (n : ℕ) (t : Sdt) (b : List ℕ) where
     pub new-refused : (k ≡ 0 → ⊥) → Left (record { number = k; table = t }) b (newOf identity n t b)
     new-refused z = rw new-is (sized-refused t b (newTable identity n) n e z)
 
-    pub new-done : k ≡ 0 → {r : Sdt} {out ys : List ℕ} → Wrote (opened identity (zeros (n - 36))) b out n → Sealed (take (n - 0) out) r ys → Left (record { number = k; table = r }) (ys ++ drop (n - 0) out) (newOf identity n t b)
-    unfolding newTable
-    new-done z w d = rw new-is (sized-done t e z (omega arith) w d)
-
 pub header-length : (identity : List ℕ) → length identity ≡ 31 → length (header identity) ≡ 36
 unfolding header
 header-length identity h = simp (length-append, length-take, length-drop, le-length) (omega arith)
@@ -194,6 +190,16 @@ new-parts identity m = record { is = simp (append-assoc, append-nil) }
 pub opened-length : (identity : List ℕ) (n : ℕ) → length identity ≡ 31 → 36 ≤ n → length (opened identity (zeros (n - 36))) ≡ n
 unfolding flatten
 opened-length identity n h k = ap length (new-parts identity (n - 36) .is) ∙ simp (length-append, header-length identity h, length-replicate) (omega arith)
+
+module _ (identity : List ℕ) (n : ℕ) (t : Sdt) (b : List ℕ) (h : 36 ≤ n) {k : ℕ} (e : k ≡ sizeNumber n (length b)) (z : k ≡ 0) (l : length identity ≡ 31) where
+  pub new-start : Writing (opened identity (zeros (n - 36))) (header identity ∷ zeros (n - 36) ∷ []) 0 b b
+  new-start = writing-start b (new-parts identity (n - 36)) (rw (opened-length identity n l h) (size-zero e z .1))
+
+  pub new-done : {r : Sdt} {out ys : List ℕ} {at : ℕ} → Writing (opened identity (zeros (n - 36))) [] at b out → Sealed (take (n - 0) out) r ys → Left (record { number = k; table = r }) (ys ++ drop (n - 0) out) (newOf identity n t b)
+  unfolding newTable
+  new-done w d =
+      let f = writing-end w in
+      rw (new-is identity n t b h e) (sized-done t e z (omega arith) (rw (f .count ∙ opened-length identity n l h) at f) d)
 
 -- ── Append
 module _ (t : Sdt) (b piece : List ℕ) where
@@ -234,7 +240,7 @@ pub writable-fits : (n offset k : ℕ) → writable n offset k ≡ true → offs
 unfolding writable
 writable-fits n offset k e =
     let s = true-test (writable n offset k) e in
-    leb→le (offset + k) n (search (and-left, and-right) depth 10)
+    leb→le (offset + k) n (search and-left depth 10)
 
 pub overwritten-in : (t z piece : List ℕ) (offset : ℕ) → offset + length piece ≤ length t → {zs : List ℕ} {m : ℕ} → Wrote piece (lent offset (t ++ z)) zs m → returned offset (t ++ z) zs ≡ (take offset t ++ (piece ++ drop (offset + length piece) t)) ++ z
 overwritten-in t z piece offset h {zs} {m} w =

@@ -3,3 +3,4 @@ pub mod TableLaws
 pub mod Edit
 pub mod Answer
 pub mod AnswerLaws
+pub mod EditLaws

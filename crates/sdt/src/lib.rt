@@ -4,8 +4,9 @@ ghost use mathlib.Core.Bool.{_||_};
 ghost use Prim.Native.Nat.{_+_, _≤_, _<_};
 ghost use lib.Dec.{eqb, leb};
 ghost use lib.ListN.{length};
-ghost use Rattle.sdt.specs.Edit.{sound, writable, appendOf, writeOf};
-ghost use Rattle.sdt.specs.Answer.{Left, Sealed, sizeNumber};
+ghost use Rattle.octets.specs.Filling.{Wrote};
+ghost use Rattle.sdt.specs.Edit.{sound, writable, newOf, appendOf, writeOf};
+ghost use Rattle.sdt.specs.Answer.{Left, Leaves, Sealed, zeros, sizeNumber, header};
 
 // The table's length and checksum.
 #[repr(C)]
@@ -97,8 +98,34 @@ fn size_number(n: usize, more: usize, room: usize) -> u32
 
 // ── What is written
 
+fn put_zeros(n: usize, out: &mut [u8]) -> usize
+    requires { ⌜ length (zeros n) ≤ length (now out) ⌝ }
+    ensures { λ r. ⌜ Wrote (zeros n) (now (out .entry)) (now (out .exit)) r ⌝ }
+{
+    let mut at = 0;
+    while at < n {
+        out[at] = 0;
+        at = at + 1;
+    }
+    at
+}
+
+// The header with no length and no checksum yet.
+pub fn put_header(identity: &[u8], out: &mut [u8]) -> usize
+    requires { ⌜ (length (now identity) ≡ 31) × (length (header (now identity)) ≤ length (now out)) ⌝ }
+    ensures { λ r. ⌜ Wrote (header (now (identity .entry))) (now (out .entry)) (now (out .exit)) r ⌝ }
+{
+    let mut at = 0;
+    at = at + octets::put_slice(&identity[0..4], &mut out[at..]);
+    at = at + octets::put_le(4, 0, &mut out[at..]);
+    at = at + octets::put_slice(&identity[4..5], &mut out[at..]);
+    at = at + octets::put_le(1, 0, &mut out[at..]);
+    at = at + octets::put_slice(&identity[5..31], &mut out[at..]);
+    at
+}
+
 // Length and checksum of the table t, which is all of the slice, into it.
-fn update_checksum(t: &mut [u8]) -> Sdt
+pub fn update_checksum(t: &mut [u8]) -> Sdt
     requires { ⌜ (10 ≤ length (now t)) × (length (now t) < 4294967296) ⌝ }
     ensures { λ r. ⌜ Sealed (now (t .entry)) r (now (t .exit)) ⌝ }
 {
@@ -114,6 +141,28 @@ fn update_checksum(t: &mut [u8]) -> Sdt
 }
 
 // ── The edits
+
+pub fn new_at(t: Sdt, identity: &[u8; 31], length: u32, buffer: &mut [u8]) -> Edit
+    ensures { λ r. ⌜ Left r (now (buffer .exit)) (newOf (now (identity .entry)) length t (now (buffer .entry))) ⌝ }
+{
+    if length < 36 {
+        return Edit {
+            number: 20,
+            table: t,
+        };
+    }
+    let n = length as usize;
+    let number = size_number(n, 0, buffer.len());
+    if number != 0 {
+        return Edit { number, table: t };
+    }
+    let id = &identity[..];
+    let mut at = 0;
+    at = at + put_header(id, &mut buffer[at..]);
+    at = at + put_zeros(n - 36, &mut buffer[at..]);
+    let table = update_checksum(&mut buffer[0..n]);
+    Edit { number, table }
+}
 
 pub fn append_at(t: Sdt, buffer: &mut [u8], piece: &[u8]) -> Edit
     ensures { λ r. ⌜ Left r (now (buffer .exit)) (appendOf t (now (buffer .entry)) (now (piece .entry))) ⌝ }
@@ -157,4 +206,30 @@ pub fn write_at(t: Sdt, buffer: &mut [u8], offset: u64, piece: &[u8]) -> Edit
         number: 20,
         table: t,
     }
+}
+
+// ── The edits in place: the record is lent beside the buffer, and holds what the edit leaves
+
+pub fn new(t: &mut Sdt, identity: &[u8; 31], length: u32, buffer: &mut [u8]) -> u32
+    ensures { λ r. ⌜ Leaves r (now (t .exit)) (now (buffer .exit)) (newOf (now (identity .entry)) length (now (t .entry)) (now (buffer .entry))) ⌝ }
+{
+    let e = new_at(*t, identity, length, buffer);
+    *t = e.table;
+    e.number
+}
+
+pub fn append(t: &mut Sdt, buffer: &mut [u8], piece: &[u8]) -> u32
+    ensures { λ r. ⌜ Leaves r (now (t .exit)) (now (buffer .exit)) (appendOf (now (t .entry)) (now (buffer .entry)) (now (piece .entry))) ⌝ }
+{
+    let e = append_at(*t, buffer, piece);
+    *t = e.table;
+    e.number
+}
+
+pub fn write(t: &mut Sdt, buffer: &mut [u8], offset: u64, piece: &[u8]) -> u32
+    ensures { λ r. ⌜ Leaves r (now (t .exit)) (now (buffer .exit)) (writeOf (now (t .entry)) (now (buffer .entry)) offset (now (piece .entry))) ⌝ }
+{
+    let e = write_at(*t, buffer, offset, piece);
+    *t = e.table;
+    e.number
 }

@@ -2,7 +2,7 @@
 -- Document 01, "Bytes"; ACPI 6.4, 20.2 (AML Grammar Definition).
 -- Assumes nothing.
 use mathlib.Core.Bool.{Bool, cond}
-use mathlib.Core.List.{List, [], _∷_, _++_}
+use mathlib.Core.List.{List, [], _++_}
 use Prim.Native.Nat.{ℕ, _+_}
 use lib.ListN.{length}
 use Rattle.octets.specs.Bytes.{le}

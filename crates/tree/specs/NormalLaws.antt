@@ -1,17 +1,17 @@
 -- Laws of the normal form: it has the same bytes and as many terms, fits where the forest fits if it is not too deep, is normal, and is
 -- its own normal form; of a normal forest it is that forest. For what is parsed, and for encoding and normalising.
 -- Assumes nothing.
-use mathlib.Core.Path.{_≡_, refl, sym, _∙_, ap, ap₂}
+use mathlib.Core.Path.{_≡_, refl, _∙_, ap, ap₂}
 use mathlib.Core.Bool.{Bool, true, false, _&&_, _||_, not}
-use mathlib.Core.Option.{Option, none, some, Option·none-ne-some, Option·some-injective}
-use mathlib.Core.List.{List, [], _∷_, _++_, append-nil}
+use mathlib.Core.Option.{Option, none, some}
+use mathlib.Core.List.{List, [], _++_, append-nil}
 use Prim.Native.Nat.{ℕ, zero, suc, _+_, _-_, _≤_, _<_, _^_}
 use native.Mathlib.Omega.{arith}
 use borrow.Author.Tests.{le-leb}
 use lib.Dec.{T, T-not, eqb, ltb, leb, leb·suc-zero, eqb→eq, leb→le, le→leb}
 use lib.ListN.{length, length-append}
 use Rattle.octets.specs.Bytes.{le}
-use Rattle.octets.specs.Tests.{and-left, and-right, and-both, or-case, or-left, test-true, cond-false, cond-case, cond-inv, not-equal}
+use Rattle.octets.specs.Tests.{and-left, and-right, and-both, or-case, or-left, test-true, cond-false, cond-case, not-equal}
 use Rattle.number.specs.Integer.{integer}
 use Rattle.number.specs.PkgLength.{largest}
 use Rattle.number.specs.Buffer.{boxed, buffer}
@@ -32,6 +32,7 @@ use Rattle.grammar.specs.declared.Rest.{Rest}
 use Rattle.grammar.specs.declared.Rest.the-variants.{Nothing, Arity, Listed, Counted, Measured}
 use Rattle.grammar.specs.declared.Row.{Row}
 use Rattle.grammar.specs.Kinds.{rank, is, stands, childPlace, counts, argsAt, opcode, noNumbers, plain, container, normalKinds, otherKinds, kinds, find, rowOf, rowIn}
+use Rattle.grammar.specs.KindLaws.{everyRow, found-rule, found-kind}
 use Rattle.grammar.specs.Forest.{Fields, Forest, nil, node, count, depth}
 use Rattle.fields.specs.Fields.{inRange, numbersFit, formFits, textFits, spelled, textSpelled}
 use Rattle.fields.specs.Written.{fieldBytes, textBytes, formBytes}
@@ -129,17 +130,8 @@ norm-depth args place l j (node k v c s) h =
     omega (arith, has-level args (place j) l k v (count c) (h .0), norm-depth args (childPlace (rowIn (rowOf k))) (l - 1) 0 c (h .1), norm-depth args place l (suc j) s (h .2))
 
 -- ── A test of every row is a rule of each kind that is known
-everyRow : (Row → Bool) → List Row → Bool
-everyRow f [] = true
-everyRow f (r ∷ rs) = f r && everyRow f rs
-
 rule : (f : Row → Bool) (rs : List Row) → T (everyRow f rs) → (k : ℕ) {r : Row} → find k rs ≡ some r → T (f r) × (r .kind ≡ k)
-unfolding everyRow find
-rule f [] t k e = absurd (Option·none-ne-some _ e)
-rule f (q ∷ rs) t k {r} e =
-    cond-inv (eqb k (q .kind)) (some q) (find k rs) e
-    (λ u d. rw (← (Option·some-injective q r d)) (and-left (f q) (everyRow f rs) t, sym (eqb→eq k (q .kind) u)))
-    λ u d. rule f rs (and-right (f q) (everyRow f rs) t) k d
+rule f rs t k e = (found-rule k f rs t e, found-kind k rs e)
 
 -- ── The rows that the normal form is about
 row-integer : rowOf 0x0E ≡ some (plain 0x0E Unused IntegerX 0 (2 ^ 64 - 1) Data)

@@ -3,8 +3,6 @@ use Rattle.checker.specs.FaultLaws.{args-element, args-other}
 use borrow.Author.Needs.{needs}
 use Rattle.checker.proofs.args_at.Statement.{statement}
 use Rattle.checker.proofs.args_at.Tie as tie
-use Rattle.arity.proofs.args_of.Reads as args-of-reads
-use Rattle.grammar.proofs.rank_of.Reads as rank-of-reads
 
 pub args-at-spec : {M : Type 1} → statement M
 args-at-spec = tie.close (tie.spec (λ c κs. search needs)  -- rank-of-requires

@@ -3,13 +3,6 @@ use Rattle.checker.specs.FaultLaws.{fault-5, fault-6, fault-7, fault-pla
 use borrow.Author.Needs.{needs}
 use Rattle.checker.proofs.fault_of.Statement.{statement}
 use Rattle.checker.proofs.fault_of.Tie as tie
-use Rattle.checker.proofs.is_counted.Reads as is-counted-reads
-use Rattle.checker.proofs.is_in_pool.Reads as is-in-pool-reads
-use Rattle.checker.proofs.place_fault.Reads as place-fault-reads
-use Rattle.fields.proofs.in_range.Reads as in-range-reads
-use Rattle.fields.proofs.is_spelled.Reads as is-spelled-reads
-use Rattle.octets.proofs.both.Reads as both-reads
-use Rattle.term.proofs.text_at.Reads as text-at-reads
 
 pub fault-of-spec : {M : Type 1} → statement M
 fault-of-spec =

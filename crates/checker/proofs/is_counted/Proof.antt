@@ -1,10 +1,9 @@
 -- `checker::is_counted` meets its contract, by what stands behind the operands. Assumes nothing.
-use mathlib.Core.Path.{refl, ap}
+use mathlib.Core.Path.{refl}
 use Rattle.grammar.specs.Kinds.{counts}
 use borrow.Author.Needs.{needs}
 use Rattle.checker.proofs.is_counted.Statement.{statement}
 use Rattle.checker.proofs.is_counted.Tie as tie
-use Rattle.checker.proofs.args_at.Reads as args-at-reads
 
 pub is-counted-spec : {M : Type 1} → statement M
 unfolding counts

@@ -3,8 +3,6 @@ use Rattle.checker.specs.FaultLaws.{out-of-pool, in-pool}
 use borrow.Author.Needs.{needs}
 use Rattle.checker.proofs.is_in_pool.Statement.{statement}
 use Rattle.checker.proofs.is_in_pool.Tie as tie
-use Rattle.octets.proofs.both.Reads as both-reads
-use Rattle.octets.proofs.either.Reads as either-reads
 
 pub is-in-pool-spec : {M : Type 1} → statement M
 is-in-pool-spec = tie.close (tie.spec (λ c. out-of-pool _ _ (c .if1 .taken))  -- returns

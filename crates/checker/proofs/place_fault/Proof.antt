@@ -3,7 +3,6 @@ use Rattle.checker.specs.FaultLaws.{place-8, place-9, place-0}
 use borrow.Author.Needs.{needs}
 use Rattle.checker.proofs.place_fault.Statement.{statement}
 use Rattle.checker.proofs.place_fault.Tie as tie
-use Rattle.grammar.proofs.may_stand.Reads as may-stand-reads
 
 pub place-fault-spec : {M : Type 1} → statement M
 place-fault-spec = tie.close (tie.spec (λ c κs. search needs)  -- may-stand-requires

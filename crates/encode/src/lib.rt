@@ -1,0 +1,198 @@
+// Encodes a term file: measures its terms, writes them behind the header, and seals the table.
+ghost use mathlib.Core.Path.{_≡_};
+ghost use Prim.Native.Nat.{_+_, _≤_};
+ghost use lib.ListN.{length};
+ghost use Rattle.octets.specs.Filling.{Wrote};
+ghost use Rattle.written.specs.Fine.{fieldsOf};
+ghost use Rattle.encode.specs.Walk.{isBuffer, recordsIn, deeper, list, term};
+ghost use Rattle.encode.specs.Terms.{bodyOf, takesOf, headOf, Ready};
+ghost use Rattle.encode.specs.WalkLaws.{termsFrom, Measured, Put, Room};
+ghost use Rattle.encode.specs.Sound.{Sound};
+
+// A refusal's number and the record at which it was found; or 0, and how many bytes were written.
+pub struct Answer {
+    pub number: u32,
+    pub index: u64,
+    pub length: u64,
+}
+
+// The size of some terms; how many records they have in normal form, and whether these go below the last level; the record behind.
+pub struct Sized {
+    pub size: u64,
+    pub records: u64,
+    pub deep: bool,
+    pub next: usize,
+}
+
+// How many bytes were written, and the record behind those that were.
+pub struct Done {
+    pub size: usize,
+    pub next: usize,
+}
+
+// ── Measuring
+
+// UUID and template become a buffer with its size as a child.
+fn is_buffer(kind: u64) -> bool
+    ensures { λ r. ⌜ r ≡ isBuffer kind ⌝ }
+{
+    octets::either(kind == 0xE002, kind == 0xE003)
+}
+
+// The records of a term in normal form, whose children have n.
+fn records_in(kind: u64, n: u64) -> u64
+    requires { ⌜ n ≤ 131072 ⌝ }
+    ensures { λ r. ⌜ r ≡ recordsIn kind n ⌝ }
+{
+    if kind == 0xE001 {
+        return 1;
+    }
+    if is_buffer(kind) {
+        return 2;
+    }
+    1 + n
+}
+
+// Whether its normal form goes below the last level, with so many levels below its own.
+fn is_deeper(levels: usize, kind: u64, deep: bool) -> bool
+    ensures { λ r. ⌜ r ≡ deeper levels kind deep ⌝ }
+{
+    if kind == 0xE001 {
+        return false;
+    }
+    if is_buffer(kind) {
+        return levels == 0;
+    }
+    deep
+}
+
+// The bytes of a term's body around children of so many bytes, and these.
+fn body_len(row: grammar::Row, r: term::Record, text: &[u8], size: u64) -> u64
+    requires { ⌜ Ready row (fieldsOf (now text) (r .a) (r .x)) size ⌝ }
+    ensures { λ n. ⌜ n ≡ bodyOf row (fieldsOf (now (text .entry)) (r .a) (r .x)) (r .kids) size ⌝ }
+{
+    let head = frame::before_len(row, text, r.a, r.x, r.kids, size) as u64;
+    let tail = frame::behind_len(row, text, r.a, r.x) as u64;
+    head + size + tail
+}
+
+fn term_len(row: grammar::Row, r: term::Record, text: &[u8], size: u64) -> u64
+    requires { ⌜ Ready row (fieldsOf (now text) (r .a) (r .x)) size ⌝ }
+    ensures { λ n. ⌜ n ≡ takesOf row (fieldsOf (now (text .entry)) (r .a) (r .x)) (r .kids) size ⌝ }
+{
+    let body = body_len(row, r, text, size);
+    frame::frame_len(row, body) as u64 + body
+}
+
+fn size_of(records: &[u8], pool: &[u8], i: usize, levels: usize) -> Sized
+    requires { ⌜ Sound (now records) (now pool) × (levels ≤ 64) ⌝ }
+    ensures { λ s. ⌜ Measured (term levels (termsFrom (now (records .entry)) (now (pool .entry)) i)) (now (records .entry)) (now (pool .entry)) (s .size) (s .records) (s .deep) (s .next) ⌝ }
+{
+    if levels == 0 {
+        return Sized {
+            size: 0,
+            records: 0,
+            deep: false,
+            next: i,
+        };
+    }
+    if records.len() / 24 <= i {
+        return Sized {
+            size: 0,
+            records: 0,
+            deep: false,
+            next: i,
+        };
+    }
+    let r = term::record_at(records, i);
+    let row = grammar::row_at(grammar::position_of(r.kind));
+    let text = term::text_at(pool, r.start, r.len);
+    let kids = sizes_of(records, pool, r.kids, i + 1, levels - 1);
+    Sized {
+        size: term_len(row, r, text, kids.size),
+        records: records_in(r.kind, kids.records),
+        deep: is_deeper(levels - 1, r.kind, kids.deep),
+        next: kids.next,
+    }
+}
+
+fn sizes_of(records: &[u8], pool: &[u8], n: u64, i: usize, levels: usize) -> Sized
+    requires { ⌜ Sound (now records) (now pool) × (levels ≤ 64) ⌝ }
+    ensures { λ s. ⌜ Measured (list (term levels) n (termsFrom (now (records .entry)) (now (pool .entry)) i)) (now (records .entry)) (now (pool .entry)) (s .size) (s .records) (s .deep) (s .next) ⌝ }
+{
+    let mut left = n;
+    let mut size = 0;
+    let mut count = 0;
+    let mut deep = false;
+    let mut next = i;
+    while 0 < left {
+        let s = size_of(records, pool, next, levels);
+        size = size + s.size;
+        count = count + s.records;
+        deep = octets::either(deep, s.deep);
+        next = s.next;
+        left = left - 1;
+    }
+    Sized {
+        size,
+        records: count,
+        deep,
+        next,
+    }
+}
+
+// ── Writing
+
+// A term's frame, and what is before its children.
+fn put_head(row: grammar::Row, r: term::Record, text: &[u8], size: u64, out: &mut [u8]) -> usize
+    requires { ⌜ Ready row (fieldsOf (now text) (r .a) (r .x)) size × (length (headOf row (fieldsOf (now text) (r .a) (r .x)) (r .kids) size) ≤ length (now out)) × (bodyOf row (fieldsOf (now text) (r .a) (r .x)) (r .kids) size ≤ 268435455) ⌝ }
+    ensures { λ n. ⌜ Wrote (headOf row (fieldsOf (now (text .entry)) (r .a) (r .x)) (r .kids) size) (now (out .entry)) (now (out .exit)) n ⌝ }
+{
+    let body = body_len(row, r, text, size);
+    let mut at = 0;
+    at = at + frame::put_frame(row, body, &mut out[at..]);
+    at = at + frame::put_before(row, text, r.a, r.x, r.kids, size, &mut out[at..]);
+    at
+}
+
+// A term: its frame, what is before its children, the children in the part behind, what is behind them.
+fn write_term(records: &[u8], pool: &[u8], i: usize, levels: usize, out: &mut [u8]) -> Done
+    requires { ⌜ Sound (now records) (now pool) × (levels ≤ 64) × Room (term levels (termsFrom (now records) (now pool) i)) (now out) ⌝ }
+    ensures { λ d. ⌜ Put (term levels (termsFrom (now (records .entry)) (now (pool .entry)) i)) (now (records .entry)) (now (pool .entry)) (now (out .entry)) (now (out .exit)) (d .size) (d .next) ⌝ }
+{
+    if levels == 0 {
+        return Done { size: 0, next: i };
+    }
+    if records.len() / 24 <= i {
+        return Done { size: 0, next: i };
+    }
+    let r = term::record_at(records, i);
+    let row = grammar::row_at(grammar::position_of(r.kind));
+    let text = term::text_at(pool, r.start, r.len);
+    let kids = sizes_of(records, pool, r.kids, i + 1, levels - 1);
+    let mut at = 0;
+    at = at + put_head(row, r, text, kids.size, &mut out[at..]);
+    let done = write_list(records, pool, r.kids, i + 1, levels - 1, &mut out[at..]);
+    at = at + done.size;
+    at = at + frame::put_behind(row, text, r.a, r.x, &mut out[at..]);
+    Done {
+        size: at,
+        next: done.next,
+    }
+}
+
+fn write_list(records: &[u8], pool: &[u8], n: u64, i: usize, levels: usize, out: &mut [u8]) -> Done
+    requires { ⌜ Sound (now records) (now pool) × (levels ≤ 64) × Room (list (term levels) n (termsFrom (now records) (now pool) i)) (now out) ⌝ }
+    ensures { λ d. ⌜ Put (list (term levels) n (termsFrom (now (records .entry)) (now (pool .entry)) i)) (now (records .entry)) (now (pool .entry)) (now (out .entry)) (now (out .exit)) (d .size) (d .next) ⌝ }
+{
+    let mut left = n;
+    let mut at = 0;
+    let mut next = i;
+    while 0 < left {
+        let done = write_term(records, pool, next, levels, &mut out[at..]);
+        at = at + done.size;
+        next = done.next;
+        left = left - 1;
+    }
+    Done { size: at, next }
+}

@@ -1,0 +1,1 @@
+// The normal-form file; definitions and laws.

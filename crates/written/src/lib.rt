@@ -1,0 +1,153 @@
+// Writes a term's text and numbers by the columns of its kind, and says how many bytes they take.
+ghost use mathlib.Core.Path.{_≡_};
+ghost use mathlib.Core.List.{_++_, _∷_, []};
+ghost use Prim.Native.Nat.{_+_, _≤_};
+ghost use lib.Dec.{T};
+ghost use lib.ListN.{length};
+ghost use Rattle.octets.specs.Bytes.{le};
+ghost use Rattle.octets.specs.Filling.{Wrote};
+ghost use Rattle.ident.specs.Ident.{isEisa, eisaId, isUuid, uuid};
+ghost use Rattle.fields.specs.Fields.{textFits, textSpelled};
+ghost use Rattle.fields.specs.Written.{pair, textBytes, formBytes, fieldBytes};
+ghost use Rattle.written.specs.Fine.{Fine, fieldsOf, narrow};
+ghost use Rattle.written.specs.FineLaws.{TextTakes, FormTakes, Held};
+
+// ── Text
+
+// The integer of a well-formed EISA id.
+fn eisa_value(t: &[u8]) -> u64
+    requires { ⌜ T (isEisa (now t)) ⌝ }
+    ensures { λ r. ⌜ r ≡ eisaId (now (t .entry)) ⌝ }
+{
+    let found = ident::eisa_name(t);
+    match found {
+        ident::EISAName::Value { value } => value,
+        ident::EISAName::Malformed => 0,
+    }
+}
+
+// The bytes of a text of this form, whatever the numbers beside it.
+fn text_len(text: grammar::Text, kind: u64, t: &[u8]) -> usize
+    requires { ⌜ T (textSpelled text kind (now t)) ⌝ }
+    ensures { λ r. ⌜ TextTakes text kind (now (t .entry)) r ⌝ }
+{
+    match text {
+        grammar::Text::Unused => 0,
+        grammar::Text::PathText => path::path_len(t),
+        grammar::Text::SegmentText => t.len(),
+        grammar::Text::Ascii => t.len() + 1,
+        grammar::Text::AnyBytes => t.len(),
+        grammar::Text::EisaText => number::int_len(eisa_value(t)),
+        grammar::Text::UuidText => 20,
+        grammar::Text::DescriptorText => descriptor::descriptor_len(kind),
+    }
+}
+
+// A string, and the 00 that ends it.
+fn put_string(t: &[u8], out: &mut [u8]) -> usize
+    requires { ⌜ length (now t ++ (0 ∷ [])) ≤ length (now out) ⌝ }
+    ensures { λ r. ⌜ Wrote (now (t .entry) ++ (0 ∷ [])) (now (out .entry)) (now (out .exit)) r ⌝ }
+{
+    let mut at = 0;
+    at = at + octets::put_slice(t, &mut out[at..]);
+    at = at + octets::put_le(1, 0, &mut out[at..]);
+    at
+}
+
+// A UUID, as a buffer of its 16 bytes.
+fn put_uuid_buffer(t: &[u8], out: &mut [u8]) -> usize
+    requires { ⌜ T (isUuid (now t)) × (length (uuid (now t)) ≤ length (now out)) ⌝ }
+    ensures { λ r. ⌜ Wrote (uuid (now (t .entry))) (now (out .entry)) (now (out .exit)) r ⌝ }
+{
+    let mut at = 0;
+    at = at + number::put_buffer_front(16, &mut out[at..]);
+    at = at + ident::put_uuid(t, &mut out[at..]);
+    at
+}
+
+fn put_text(text: grammar::Text, kind: u64, t: &[u8], a: u64, x: u64, out: &mut [u8]) -> usize
+    requires { ⌜ (length (textBytes text kind (fieldsOf (now t) a x)) ≤ length (now out)) × T (textFits text kind (now t) a x) × T (textSpelled text kind (now t)) ⌝ }
+    ensures { λ r. ⌜ Wrote (textBytes text kind (fieldsOf (now (t .entry)) a x)) (now (out .entry)) (now (out .exit)) r ⌝ }
+{
+    match text {
+        grammar::Text::Unused => 0,
+        grammar::Text::PathText => path::put_path(t, out),
+        grammar::Text::SegmentText => octets::put_slice(t, out),
+        grammar::Text::Ascii => put_string(t, out),
+        grammar::Text::AnyBytes => octets::put_slice(t, out),
+        grammar::Text::EisaText => number::put_int(eisa_value(t), out),
+        grammar::Text::UuidText => put_uuid_buffer(t, out),
+        grammar::Text::DescriptorText => descriptor::put_descriptor(kind, t, a, x, out),
+    }
+}
+
+// ── Numbers
+
+// The bytes of numbers of this form, whatever their limits.
+fn form_len(numbers: grammar::Numbers, x: u64) -> usize
+    ensures { λ r. ⌜ FormTakes numbers x r ⌝ }
+{
+    match numbers {
+        grammar::Numbers::Digits { width, base } => width as usize,
+        grammar::Numbers::Swapped { width } => width as usize,
+        grammar::Numbers::FieldFlags => 1,
+        grammar::Numbers::IntegerX => number::int_len(x),
+        grammar::Numbers::LengthX => number::pkg_length_len(x),
+    }
+}
+
+// Two numbers as one of so many bytes; where it has none it is not made, and may be too large to be.
+fn put_digits(width: u64, base: u64, limit: u64, low: u64, high: u64, out: &mut [u8]) -> usize
+    requires { ⌜ Held width base limit low high × (length (le width (base + pair limit low high)) ≤ length (now out)) ⌝ }
+    ensures { λ r. ⌜ Wrote (le width (base + pair limit low high)) (now (out .entry)) (now (out .exit)) r ⌝ }
+{
+    if width == 0 {
+        return 0;
+    }
+    octets::put_le(width as usize, base + (low + (limit + 1) * high), out)
+}
+
+fn put_form(
+    numbers: grammar::Numbers,
+    alimit: u64,
+    xlimit: u64,
+    a: u64,
+    x: u64,
+    out: &mut [u8],
+) -> usize
+    requires { ⌜ (length (formBytes numbers alimit xlimit a x) ≤ length (now out)) × T (narrow numbers alimit xlimit) × (a ≤ alimit) × (x ≤ xlimit) ⌝ }
+    ensures { λ r. ⌜ Wrote (formBytes numbers alimit xlimit a x) (now (out .entry)) (now (out .exit)) r ⌝ }
+{
+    match numbers {
+        grammar::Numbers::Digits { width, base } => put_digits(width, base, alimit, a, x, out),
+        grammar::Numbers::Swapped { width } => put_digits(width, 0, xlimit, x, a, out),
+        grammar::Numbers::FieldFlags => octets::put_le(1, a, out),
+        grammar::Numbers::IntegerX => number::put_int(x, out),
+        grammar::Numbers::LengthX => number::create_pkg_length(x, false, out),
+    }
+}
+
+// ── Both
+
+// The bytes of a term's text and numbers.
+pub fn field_len(row: grammar::Row, t: &[u8], a: u64, x: u64) -> usize
+    requires { ⌜ Fine row (fieldsOf (now t) a x) ⌝ }
+    ensures { λ r. ⌜ r ≡ length (fieldBytes row (fieldsOf (now (t .entry)) a x)) ⌝ }
+{
+    let text = row.text;
+    let numbers = row.numbers;
+    text_len(text, row.kind, t) + form_len(numbers, x)
+}
+
+// The text, then the numbers.
+pub fn put_fields(row: grammar::Row, t: &[u8], a: u64, x: u64, out: &mut [u8]) -> usize
+    requires { ⌜ Fine row (fieldsOf (now t) a x) × (length (fieldBytes row (fieldsOf (now t) a x)) ≤ length (now out)) ⌝ }
+    ensures { λ r. ⌜ Wrote (fieldBytes row (fieldsOf (now (t .entry)) a x)) (now (out .entry)) (now (out .exit)) r ⌝ }
+{
+    let text = row.text;
+    let numbers = row.numbers;
+    let mut at = 0;
+    at = at + put_text(text, row.kind, t, a, x, &mut out[at..]);
+    at = at + put_form(numbers, row.alimit, row.xlimit, a, x, &mut out[at..]);
+    at
+}
