@@ -1,0 +1,6 @@
+pub mod Whole
+pub mod ListLaws
+pub mod TextLaws
+pub mod TableLaws
+pub mod WholeLaws
+pub mod ReadLaws

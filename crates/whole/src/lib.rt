@@ -1,0 +1,1 @@
+// Whole files and whole tables; definitions and theorems.
