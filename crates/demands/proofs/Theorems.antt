@@ -2,8 +2,8 @@
 -- Demand 1 is a property of every function here (docs/AUDIT.md). Assumes nothing.
 use mathlib.Core.Path.{_≡_, refl}
 use mathlib.Core.List.{List, map, flatten}
-use Prim.Native.Nat.{ℕ, _+_, _<_}
-use Rattle.octets.specs.Bytes.{le, value, every, isByte, leAt, begins, need, _>>=_}
+use Prim.Native.Nat.{ℕ}
+use Rattle.octets.specs.Bytes.{_>>=_, le, value, every, isByte, leAt, begins, need}
 use Rattle.number.specs.Integer.{integer, width, prefix}
 use Rattle.number.specs.PkgLength.{following, lengthBytes, createPkgLength}
 use Rattle.number.specs.Buffer.{boxed, buffer}
@@ -13,7 +13,6 @@ use Rattle.checker.specs.Refusal.{verdict, refusalOf, scan, faultOf, faultAs, f
 use Rattle.demands.specs.Examples.{Input, encoded, examples, wholeFile, wholeTable}
 use mathlib.Core.Logic.{_↔_}
 use lib.Dec.{T}
-use lib.ListN.{length}
 use Rattle.octets.specs.Sum.{byteSum, negated, total}
 use Rattle.term.specs.File.{identity, layoutOf, laidOut, touching, few}
 use Rattle.encode.specs.Encode.{handed, encodeOf, tableOf, described}

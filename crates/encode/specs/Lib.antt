@@ -4,3 +4,7 @@ pub mod Most
 pub mod WalkLaws
 pub mod Terms
 pub mod Sound
+pub mod Answer
+pub mod LateLaws
+pub mod AcceptLaws
+pub mod TableLaws

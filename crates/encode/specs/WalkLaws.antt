@@ -141,7 +141,7 @@ weighed pool h (r ∷ rs) =
     let t : length (take (r .len) (drop (r .start) pool)) ≤ length pool = simp (length-take, length-drop) (omega arith) in
     omega (arith, weighed pool h rs)
 
-records-length : (b : List ℕ) (i n : ℕ) → length (recordsOf b i n) ≡ n
+pub records-length : (b : List ℕ) (i n : ℕ) → length (recordsOf b i n) ≡ n
 unfolding recordsOf
 records-length b i zero = refl
 records-length b i (suc n) = ap suc (records-length b (suc i) n)

@@ -8,6 +8,10 @@ ghost use Rattle.encode.specs.Walk.{isBuffer, recordsIn, deeper, list, t
 ghost use Rattle.encode.specs.Terms.{bodyOf, takesOf, headOf, Ready};
 ghost use Rattle.encode.specs.WalkLaws.{termsFrom, Measured, Put, Room};
 ghost use Rattle.encode.specs.Sound.{Sound};
+ghost use Rattle.sdt.specs.Table.{opened, sealed};
+ghost use Rattle.encode.specs.Encode.{encodeOf};
+ghost use Rattle.encode.specs.Answer.{Answered, whole, figuresNumber, walked};
+ghost use Rattle.encode.specs.TableLaws.{TableRoom};
 
 // A refusal's number and the record at which it was found; or 0, and how many bytes were written.
 pub struct Answer {
@@ -195,4 +199,94 @@ fn write_list(records: &[u8], pool: &[u8], n: u64, i: usize, levels: usize, out:
         left = left - 1;
     }
     Done { size: at, next }
+}
+
+// ── The table
+
+// 11 or 12, or 0: so many records in normal form, whether they are too deep, so many bytes. A table of this size has no body over
+// the range of its PkgLength, so 13 cannot come behind 12.
+fn late_number(records: u64, deep: bool, size: u64) -> u32
+    ensures { λ r. ⌜ r ≡ figuresNumber records deep size ⌝ }
+{
+    if octets::either(65536 < records, deep) {
+        return 11;
+    }
+    if 268435455 - 36 < size {
+        return 12;
+    }
+    0
+}
+
+// The header, with no length and no checksum yet, and the terms.
+fn put_opened(identity: &[u8], records: &[u8], pool: &[u8], out: &mut [u8]) -> usize
+    requires { ⌜ Sound (now records) (now pool) × TableRoom (now identity) (whole (now records) (now pool)) (now out) ⌝ }
+    ensures { λ n. ⌜ Wrote (opened (now (identity .entry)) (whole (now (records .entry)) (now (pool .entry)) .bytes)) (now (out .entry)) (now (out .exit)) n ⌝ }
+{
+    let n = (records.len() / 24) as u64;
+    let mut at = 0;
+    at = at + sdt::put_header(identity, &mut out[at..]);
+    let done = write_list(records, pool, n, 0, 64, &mut out[at..]);
+    at = at + done.size;
+    at
+}
+
+fn put_table(identity: &[u8], records: &[u8], pool: &[u8], out: &mut [u8]) -> usize
+    requires { ⌜ Sound (now records) (now pool) × TableRoom (now identity) (whole (now records) (now pool)) (now out) ⌝ }
+    ensures { λ n. ⌜ Wrote (sealed (opened (now (identity .entry)) (whole (now (records .entry)) (now (pool .entry)) .bytes))) (now (out .entry)) (now (out .exit)) n ⌝ }
+{
+    let total = put_opened(identity, records, pool, out);
+    sdt::update_checksum(&mut out[0..total]);
+    total
+}
+
+// Refusals 11, 12 and 14, or the table.
+fn encode_sections(identity: &[u8], records: &[u8], pool: &[u8], out: &mut [u8]) -> Answer
+    requires { ⌜ Sound (now records) (now pool) × (length (now identity) ≡ 31) ⌝ }
+    ensures { λ r. ⌜ Answered r (now (out .exit)) (walked (now (identity .entry)) (whole (now (records .entry)) (now (pool .entry))) (now (out .entry))) ⌝ }
+{
+    let n = (records.len() / 24) as u64;
+    let s = sizes_of(records, pool, n, 0, 64);
+    let number = late_number(s.records, s.deep, s.size);
+    if number != 0 {
+        return Answer {
+            number,
+            index: 0,
+            length: 0,
+        };
+    }
+    if (out.len() as u64) < 36 + s.size {
+        return Answer {
+            number: 14,
+            index: 0,
+            length: 0,
+        };
+    }
+    let total = put_table(identity, records, pool, out);
+    Answer {
+        number: 0,
+        index: 0,
+        length: total as u64,
+    }
+}
+
+// The table of a term file into `out`, or the refusal, and then `out` is as it was.
+pub fn encode(file: &[u8], out: &mut [u8]) -> Answer
+    ensures { λ r. ⌜ Answered r (now (out .exit)) (encodeOf (now (file .entry)) (now (out .entry))) ⌝ }
+{
+    let v = checker::check(file);
+    if v.number != 0 {
+        return Answer {
+            number: v.number,
+            index: v.index,
+            length: 0,
+        };
+    }
+    let l = term::lay_out(file);
+    let a = l.arities;
+    let p = l.pool;
+    let end = p + octets::get_le(file, 20, 4) as usize;
+    let identity = &file[28..59];
+    let records = &file[60..a];
+    let pool = &file[p..end];
+    encode_sections(identity, records, pool, out)
 }
