@@ -1,8 +1,8 @@
--- `check_main::name_end` ends. Assumes nothing.
+-- `described::name_end` ends. Assumes nothing.
 use Prim.Native.Nat.{_-_}
 use borrow.Author.Needs.{needs}
-use Rattle.check_main.proofs.name_end.Statement.{statement}
-use Rattle.check_main.proofs.name_end.Tie as tie
+use Rattle.described.proofs.name_end.Statement.{statement}
+use Rattle.described.proofs.name_end.Tie as tie
 
 abbrev Inv-loop : tie.InvT-loop
 Inv-loop b from to i₀ i = Unit {0}

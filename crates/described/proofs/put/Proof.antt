@@ -1,10 +1,10 @@
--- `check_main::put` lends a number enough room. Assumes nothing.
+-- `described::put` lends a number enough room. Assumes nothing.
 use native.Mathlib.Omega.{arith}
 use lib.ListN.{length-take, length-drop}
 use borrow.Author.Needs.{needs}
 use Rattle.octets.specs.Laws.{le-length}
-use Rattle.check_main.proofs.put.Statement.{statement}
-use Rattle.check_main.proofs.put.Tie as tie
+use Rattle.described.proofs.put.Statement.{statement}
+use Rattle.described.proofs.put.Tie as tie
 
 pub put-spec : {M : Type 1} → statement M
 put-spec =

@@ -1,10 +1,10 @@
--- `check_main::repeat` ends, and keeps the length. Assumes nothing.
+-- `described::repeat` ends, and keeps the length. Assumes nothing.
 use Prim.Native.Nat.{_-_}
 use mathlib.Core.Path.{_≡_}
 use lib.ListN.{length}
 use borrow.Author.Needs.{needs}
-use Rattle.check_main.proofs.repeat.Statement.{statement}
-use Rattle.check_main.proofs.repeat.Tie as tie
+use Rattle.described.proofs.repeat.Statement.{statement}
+use Rattle.described.proofs.repeat.Tie as tie
 
 abbrev Inv-loop : tie.InvT-loop
 Inv-loop at stride end out₀ i₀ out i = length out ≡ length out₀

@@ -1,10 +1,10 @@
--- `check_main::put_glyphs` ends, and keeps the length. Assumes nothing.
+-- `described::put_file` ends, and keeps the length. Assumes nothing.
 use Prim.Native.Nat.{_-_}
 use mathlib.Core.Path.{_≡_}
 use lib.ListN.{length}
 use borrow.Author.Needs.{needs}
-use Rattle.check_main.proofs.put_glyphs.Statement.{statement}
-use Rattle.check_main.proofs.put_glyphs.Tie as tie
+use Rattle.described.proofs.put_file.Statement.{statement}
+use Rattle.described.proofs.put_file.Tie as tie
 
 abbrev Inv-loop : tie.InvT-loop
 Inv-loop b from to out₀ p₀ last i₀ out p i = length out ≡ length out₀
@@ -12,8 +12,8 @@ Inv-loop b from to out₀ p₀ last i₀ out p i = length out ≡ length out₀
 abbrev μ-loop : tie.MeasureT-loop
 μ-loop b from to out₀ p₀ last i₀ out p i = last - i
 
-pub put-glyphs-spec : {M : Type 1} → statement M
-put-glyphs-spec =
+pub put-file-spec : {M : Type 1} → statement M
+put-file-spec =
     tie.close
     (tie.spec
     Inv-loop
