@@ -22,7 +22,7 @@ pub enum Order {
 }
 
 // Entry j of the section b.
-fn entry_at(b: &[u8], j: usize) -> Entry
+pub fn entry_at(b: &[u8], j: usize) -> Entry
     requires { ⌜ j < length (now b) / 8 ⌝ }
     ensures { λ r. ⌜ r ≡ entryAt (now (b .entry)) j ⌝ }
 {
