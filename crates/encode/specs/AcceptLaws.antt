@@ -1,23 +1,22 @@
 -- What acceptance says of a file for the functions that measure and write: where its sections lie, how large they are, and that
 -- each of its records can be written. Assumes nothing.
-use mathlib.Core.Path.{_≡_, refl, sym, ap, _∙_, subst}
-use mathlib.Core.Bool.{Bool, true, false, _&&_, not, cond}
+use mathlib.Core.Path.{_≡_, refl, sym, subst}
+use mathlib.Core.Bool.{Bool, true, false, not, cond}
 use mathlib.Core.Option.{Option, none, some}
 use mathlib.Core.List.{List, [], _∷_, _++_, map}
 use Prim.Native.Nat.{ℕ, zero, suc, _+_, _-_, _*_, _/_, _≤_, _<_}
 use native.Mathlib.Omega.{arith}
-use lib.Dec.{T, eqb, leb, eqb→eq, leb→le}
-use lib.ListN.{length, take, drop, length-take, length-drop}
-use borrow.Author.Tests.{eqb-true, eqb-false}
+use lib.Dec.{T, eqb, eqb→eq, leb→le}
+use lib.ListN.{length, length-take, length-drop}
+use borrow.Author.Tests.{eqb-true}
 use Rattle.octets.specs.Tests.{and-left, and-right}
 use Rattle.octets.specs.Reading.{Digits}
 use Rattle.grammar.specs.declared.Place.{Place}
 use Rattle.grammar.specs.declared.Place.the-variants.{InList}
 use Rattle.grammar.specs.declared.Row.{Row}
-use Rattle.grammar.specs.Kinds.{stands, childPlace, counts, argsAt, rowOf, rowIn}
-use Rattle.grammar.specs.Forest.{Fields, Forest, nil, node, count, Term, flatten}
+use Rattle.grammar.specs.Kinds.{childPlace, rowOf, rowIn}
+use Rattle.grammar.specs.Forest.{Forest, nil, node, count, Term, flatten}
 use Rattle.grammar.specs.ForestLaws.{flatten-build}
-use Rattle.fields.specs.Fields.{inRange, spelled}
 use Rattle.tree.specs.Fits.{Args, fine, known, termFits, Fits}
 use Rattle.written.specs.Fine.{Fine}
 use Rattle.written.specs.FineLaws.{row-narrow}
@@ -25,10 +24,10 @@ use Rattle.term.specs.declared.Record.{Record}
 use Rattle.term.specs.declared.Layout.{Layout}
 use Rattle.term.specs.File.{identity, touching, laidOut, few, refusedBy, layoutOf, recordCount, poolLength, arityOffset, poolOffset}
 use Rattle.term.specs.FileLaws.{header-small, layout-within}
-use Rattle.term.specs.Record.{recordAt, recordsOf, recordsFrom, textAt}
-use Rattle.arity.specs.Arity.{aritiesFit, argsOf}
+use Rattle.term.specs.Record.{recordAt, recordsOf, recordsFrom}
+use Rattle.arity.specs.Arity.{argsOf}
 use Rattle.checker.specs.declared.Verdict.{Verdict}
-use Rattle.checker.specs.Refusal.{verdict, textOf, scan, recordSection, aritySection, poolSection, refusalOf}
+use Rattle.checker.specs.Refusal.{verdict, textOf, recordSection, aritySection, poolSection, refusalOf}
 use Rattle.checker.specs.Accepted.{termOf, forestOf, accepted-forest}
 use Rattle.encode.specs.WalkLaws.{Small}
 use Rattle.encode.specs.Sound.{FineRecord, Sound}
@@ -46,10 +45,10 @@ unfolding refusalOf
 accepted-layout f h = layout-passed (layoutOf f .number) _ h
 
 -- the records' section is not too long, and the pool is as long as the header says
-abbrev Sized : List ℕ → Layout → Type 0
-Sized f l = (l .arities ≤ 1572924) × (length f ≡ l .pool + poolLength f)
+abbrev Limited : List ℕ → Layout → Type 0
+Limited f l = (l .arities ≤ 1572924) × (length f ≡ l .pool + poolLength f)
 
-touching-sized : (f : List ℕ) → T (laidOut f) → T (few f) → Sized f (record { number = 0; arities = arityOffset f; pool = poolOffset f })
+touching-sized : (f : List ℕ) → T (laidOut f) → T (few f) → Limited f (record { number = 0; arities = arityOffset f; pool = poolOffset f })
 unfolding laidOut touching few
 touching-sized f t u =
     let e : arityOffset f ≡ 60 + 24 * recordCount f = eqb→eq (arityOffset f) (60 + 24 * recordCount f) (search (and-left, and-right) depth 10) in
@@ -57,11 +56,11 @@ touching-sized f t u =
     let k : recordCount f ≤ 65536 = leb→le (recordCount f) 65536 (search and-left depth 10) in
     (omega (arith, e, k), h)
 
-layout-sized : (f : List ℕ) → layoutOf f .number ≡ 0 → Sized f (layoutOf f)
+layout-sized : (f : List ℕ) → layoutOf f .number ≡ 0 → Limited f (layoutOf f)
 unfolding layoutOf
 layout-sized f z = by (laidOut f) (few f) (record { number = 0; arities = arityOffset f; pool = poolOffset f }) (touching-sized f) z
   where
-    by : (a b : Bool) (l : Layout) → (T a → T b → Sized f l) → cond (not a) (refusedBy 1) (cond (not b) (refusedBy 2) l) .number ≡ 0 → Sized f (cond (not a) (refusedBy 1) (cond (not b) (refusedBy 2) l))
+    by : (a b : Bool) (l : Layout) → (T a → T b → Limited f l) → cond (not a) (refusedBy 1) (cond (not b) (refusedBy 2) l) .number ≡ 0 → Limited f (cond (not a) (refusedBy 1) (cond (not b) (refusedBy 2) l))
     by true true l h z = h tt tt
     by true false l h z = absurd (omega arith)
     by false b l h z = absurd (omega arith)

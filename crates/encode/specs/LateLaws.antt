@@ -3,32 +3,30 @@
 use mathlib.Core.Path.{_≡_, refl, sym, ap, _∙_}
 use mathlib.Core.Bool.{Bool, true, false, _&&_, _||_, not, cond}
 use mathlib.Core.Option.{some}
-use mathlib.Core.List.{List, [], _++_}
-use Prim.Native.Nat.{ℕ, _+_, _-_, _/_, _≤_, _<_}
+use mathlib.Core.List.{List, []}
+use Prim.Native.Nat.{ℕ, _+_, _-_, _/_, _≤_}
 use native.Mathlib.Omega.{arith}
-use lib.Dec.{T, eqb, leb, ltb, le→leb}
+use lib.Dec.{T, leb, ltb, le→leb}
 use lib.ListN.{length, length-append, length-map}
-use borrow.Author.Tests.{eq-eqb, le-leb, lt-leb, leb-true, leb-false, lt-ltb, le-ltb, ltb-false}
+use borrow.Author.Tests.{eq-eqb, leb-true, leb-false, lt-ltb, le-ltb, ltb-false}
 use Rattle.octets.specs.Tests.{and-both, or-right, test-true}
-use Rattle.number.specs.PkgLength.{pkgLength, largest}
 use Rattle.grammar.specs.declared.Row.{Row}
 use Rattle.grammar.specs.declared.Place.the-variants.{InList}
-use Rattle.grammar.specs.Kinds.{opcode, rowOf, rowIn}
-use Rattle.grammar.specs.Forest.{Fields, Forest, nil, node, count, depth, Term, flatten}
+use Rattle.grammar.specs.Kinds.{rowOf, rowIn}
+use Rattle.grammar.specs.Forest.{Fields, Forest, nil, node, count, depth, flatten}
 use Rattle.grammar.specs.ForestLaws.{flatten-build}
 use Rattle.tree.specs.Bytes.{body, box, termBytes, bytes}
 use Rattle.tree.specs.Normal.{norm, bodyFits, roomy}
 use Rattle.tree.specs.NormalLaws.{norm-depth, bytes-norm}
-use Rattle.tree.specs.Fits.{Fits}
 use Rattle.term.specs.File.{identity}
 use Rattle.term.specs.Record.{recordsOf, recordsFrom}
 use Rattle.arity.specs.Arity.{argsOf}
 use Rattle.checker.specs.Refusal.{refusalOf, recordSection, aritySection, poolSection}
 use Rattle.checker.specs.Accepted.{termOf, forestOf, accepted-forest}
-use Rattle.encode.specs.Encode.{Outcome, tableOf, lateNumber, described, outcomeOf, encodeOf}
-use Rattle.encode.specs.Walk.{Part, below, list, term, walk-all}
+use Rattle.encode.specs.Encode.{tableOf, lateNumber, described, outcomeOf, encodeOf}
+use Rattle.encode.specs.Walk.{below, walk-all}
 use Rattle.encode.specs.WalkLaws.{termsFrom, records-length}
-use Rattle.encode.specs.Answer.{whole, figuresNumber, numberOf, walked}
+use Rattle.encode.specs.Answer.{whole, figuresNumber, walked}
 
 -- ── Bodies are no longer than their terms, nor are children
 box-most : (b : Bool) (bs : List ℕ) → length bs ≤ length (box b bs)

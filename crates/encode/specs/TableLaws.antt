@@ -1,15 +1,14 @@
 -- The table: header and terms in a row, then sealed; and what the code answers by the figures that it has measured.
 -- Assumes nothing.
-use mathlib.Core.Path.{_≡_, refl, sym, ap, _∙_, subst}
+use mathlib.Core.Path.{_≡_, refl, sym, ap, _∙_}
 use mathlib.Core.Bool.{Bool}
 use mathlib.Core.List.{List, [], _∷_, _++_, flatten, append-assoc, append-nil}
 use Prim.Native.Nat.{ℕ, _+_, _-_, _≤_, _<_}
 use native.Mathlib.Omega.{arith}
-use lib.Dec.{eqb, ltb}
 use lib.ListN.{length, take, drop, length-append}
 use lib.Seq.{take-at, drop-at}
 use borrow.Author.Tests.{eq-eqb, ne-eqb, lt-ltb, le-ltb}
-use Rattle.octets.specs.Bytes.{le, laid}
+use Rattle.octets.specs.Bytes.{le}
 use Rattle.octets.specs.Filling.{Wrote, Parts, Writing, writing-start, writing-fits, wrote-length, lent}
 use Rattle.octets.specs.Reading.{Digits}
 use Rattle.sdt.specs.declared.Sdt.{Sdt}
@@ -21,7 +20,7 @@ use Rattle.term.specs.declared.Layout.{Layout}
 use Rattle.term.specs.File.{identity, layoutOf}
 use Rattle.term.specs.FileLaws.{Within}
 use Rattle.checker.specs.declared.Verdict.{Verdict}
-use Rattle.checker.specs.Refusal.{refusalOf, part, recordSection, poolSection}
+use Rattle.checker.specs.Refusal.{refusalOf, part}
 use Rattle.encode.specs.declared.Answer.{Answer}
 use Rattle.encode.specs.Encode.{refusedBy, handed, encodeOf}
 use Rattle.encode.specs.Walk.{Part}

@@ -102,7 +102,7 @@ pub record Within (ts : List Term) (p : Part) : Type 0 where
   pub room : length (p .bytes) + weight (p .rest) ≤ weight ts
   pub slots : p .records + 2 * length (p .rest) ≤ 2 * length ts
 
-list-within : (f : List Term → Part) → ((ts : List Term) → Within ts (f ts)) → (n : ℕ) (ts : List Term) → Within ts (list f n ts)
+pub list-within : (f : List Term → Part) → ((ts : List Term) → Within ts (f ts)) → (n : ℕ) (ts : List Term) → Within ts (list f n ts)
 unfolding list
 list-within f h zero ts = record { room = omega arith; slots = omega arith }
 list-within f h (suc n) ts =
@@ -118,7 +118,7 @@ records-most k n = by (eqb k 0xE001) (isBuffer k)
     by false true = omega arith
     by false false = omega arith
 
-term-within : (l : ℕ) (ts : List Term) → Within ts (term l ts)
+pub term-within : (l : ℕ) (ts : List Term) → Within ts (term l ts)
 unfolding term node weight
 term-within zero ts = record { room = omega arith; slots = omega arith }
 term-within (suc l) [] = record { room = omega arith; slots = omega arith }
@@ -146,7 +146,7 @@ unfolding recordsOf
 records-length b i zero = refl
 records-length b i (suc n) = ap suc (records-length b (suc i) n)
 
-terms-weighed : (records pool : List ℕ) (i : ℕ) → Small records pool → weight (termsFrom records pool i) ≤ 281474983002112
+pub terms-weighed : (records pool : List ℕ) (i : ℕ) → Small records pool → weight (termsFrom records pool i) ≤ 281474983002112
 unfolding termsFrom recordsFrom
 terms-weighed records pool i s =
     let n = records-length records i (length records / 24 - i) in

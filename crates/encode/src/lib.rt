@@ -120,7 +120,7 @@ fn size_of(records: &[u8], pool: &[u8], i: usize, levels: usize) -> Sized
     }
 }
 
-fn sizes_of(records: &[u8], pool: &[u8], n: u64, i: usize, levels: usize) -> Sized
+pub fn sizes_of(records: &[u8], pool: &[u8], n: u64, i: usize, levels: usize) -> Sized
     requires { ⌜ Sound (now records) (now pool) × (levels ≤ 64) ⌝ }
     ensures { λ s. ⌜ Measured (list (term levels) n (termsFrom (now (records .entry)) (now (pool .entry)) i)) (now (records .entry)) (now (pool .entry)) (s .size) (s .records) (s .deep) (s .next) ⌝ }
 {

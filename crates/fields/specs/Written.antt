@@ -2,7 +2,7 @@
 -- Document 01, "Bytes"; ACPI 6.4, 20.2 (AML Grammar Definition).
 -- Assumes nothing.
 use mathlib.Core.Bool.{false, _&&_, cond}
-use mathlib.Core.Option.{Option, none, some}
+use mathlib.Core.Option.{none, some}
 use mathlib.Core.List.{List, [], _∷_, _++_}
 use Prim.Native.Nat.{ℕ, _+_, _-_, _*_, _/_, _%_}
 use lib.Dec.{eqb, leb}
