@@ -6,7 +6,8 @@ use mathlib.Core.List.{List, [], _∷_, append-nil}
 use Prim.Native.Nat.{ℕ, _+_, _<_, _≤_}
 use native.Mathlib.Omega.{arith}
 use lib.Dec.{T, eqb, ltb, eqb·suc-suc, eqb·suc-zero, eqb·zero-suc, eqb→eq, ltb→lt, lt→ltb}
-use lib.ListN.{length, drop, getD}
+use lib.ListN.{length, take, drop, getD}
+use lib.Seq.{length-take-le, getD-take}
 use borrow.Author.Tests.{ltb-true, ltb-false, lt-ltb, le-ltb, eq-eqb, ne-eqb}
 use Rattle.octets.specs.Bytes.{begins}
 use Rattle.octets.specs.Tests.{and-left, and-right, and-both, or-case, or-left, or-right}
@@ -118,36 +119,40 @@ below-trans (b ∷ bs) (c ∷ cs) (d ∷ ds) h k =
     (λ l. first c d cs ds k (λ m. first-less b d bs ds (omega arith)) (λ e r. first-less b d bs ds (omega arith)))
     (λ e r. first c d cs ds k (λ m. first-less b d bs ds (omega arith)) (λ f q. first-equal b d bs ds (e ∙ f) (below-trans bs cs ds r q)))
 
--- ── `compare`: the bytes from i on decide the whole
-pub record Ordering (a b : List ℕ) (i : ℕ) : Type 0 where
-  pub left : orderOf (drop i a) (drop i b) ≡ orderOf a b
+-- ── `compare`, of a to the first n bytes of s: the bytes from i on decide the whole
+pub record Ordering (a s : List ℕ) (n i : ℕ) : Type 0 where
+  pub left : orderOf (drop i a) (drop i (take n s)) ≡ orderOf a (take n s)
+  pub there : n ≤ length s
 
-pub ordering-start : (a b : List ℕ) → Ordering a b 0
-ordering-start a b = record { left = refl }
+pub ordering-start : (a s : List ℕ) (n : ℕ) → n ≤ length s → Ordering a s n 0
+ordering-start a s n h = record { left = refl; there = h }
 
-module _ (a b : List ℕ) {i : ℕ} (h : Ordering a b i) where
-  pub ordering-longer : i < length a → length b ≤ i → order.Above ≡ orderOf a b
+module _ (a s : List ℕ) {n i : ℕ} (h : Ordering a s n i) where
+  size : length (take n s) ≡ n
+  size = length-take-le n s (h .there)
+
+  pub ordering-longer : i < length a → n ≤ i → order.Above ≡ orderOf a (take n s)
   unfolding orderOf
-  ordering-longer p q = rw (next-byte a i p, past-end b q) at (h .left)
+  ordering-longer p q = rw (next-byte a i p, past-end (take n s) {at = i} (omega (arith, size))) at (h .left)
 
-  pub ordering-shorter : length a ≤ i → i < length b → order.Below ≡ orderOf a b
+  pub ordering-shorter : length a ≤ i → i < n → order.Below ≡ orderOf a (take n s)
   unfolding orderOf
-  ordering-shorter p q = rw (past-end a p, next-byte b i q) at (h .left)
+  ordering-shorter p q = rw (past-end a p, next-byte (take n s) i (omega (arith, size))) at (h .left)
 
-  pub ordering-end : length a ≤ i → length b ≤ i → order.Same ≡ orderOf a b
+  pub ordering-end : length a ≤ i → n ≤ i → order.Same ≡ orderOf a (take n s)
   unfolding orderOf
-  ordering-end p q = rw (past-end a p, past-end b q) at (h .left)
+  ordering-end p q = rw (past-end a p, past-end (take n s) {at = i} (omega (arith, size))) at (h .left)
 
-  module _ (p : i < length a) (q : i < length b) where
-    step : cond (ltb (getD a i 0) (getD b i 0)) order.Below (cond (eqb (getD a i 0) (getD b i 0)) (orderOf (drop (i + 1) a) (drop (i + 1) b)) order.Above) ≡ orderOf a b
+  module _ (p : i < length a) (q : i < n) {y : ℕ} (f : y ≡ getD s i 0) where
+    step : cond (ltb (getD a i 0) y) order.Below (cond (eqb (getD a i 0) y) (orderOf (drop (i + 1) a) (drop (i + 1) (take n s))) order.Above) ≡ orderOf a (take n s)
     unfolding orderOf
-    step = rw (next-byte a i p, next-byte b i q) at (h .left)
+    step = rw (next-byte a i p, next-byte (take n s) i (omega (arith, size)), getD-take n s i 0 q, ← f) at (h .left)
 
-    pub ordering-below : getD a i 0 < getD b i 0 → order.Below ≡ orderOf a b
+    pub ordering-below : getD a i 0 < y → order.Below ≡ orderOf a (take n s)
     ordering-below l = rw (lt-ltb _ _ l) at step
 
-    pub ordering-above : getD b i 0 < getD a i 0 → order.Above ≡ orderOf a b
-    ordering-above l = rw (le-ltb (getD a i 0) (getD b i 0) (omega arith), ne-eqb (getD a i 0) (getD b i 0) (λ e. omega arith)) at step
+    pub ordering-above : y < getD a i 0 → order.Above ≡ orderOf a (take n s)
+    ordering-above l = rw (le-ltb (getD a i 0) y (omega arith), ne-eqb (getD a i 0) y (λ e. omega arith)) at step
 
-    pub ordering-turn : getD b i 0 ≤ getD a i 0 → getD a i 0 ≤ getD b i 0 → Ordering a b (i + 1)
-    ordering-turn l g = record { left = rw (le-ltb (getD a i 0) (getD b i 0) l, eq-eqb (getD a i 0) (getD b i 0) (omega arith)) at step }
+    pub ordering-turn : y ≤ getD a i 0 → getD a i 0 ≤ y → Ordering a s n (i + 1)
+    ordering-turn l g = record { left = rw (le-ltb (getD a i 0) y l, eq-eqb (getD a i 0) y (omega arith)) at step; there = h .there }

@@ -1,4 +1,4 @@
--- Laws of looking a path up among entries that ascend: what is left or right of an entry cannot be it; and `args_of`'s window,
+-- Laws of looking a path up among entries that ascend: what is left or right of an entry cannot be it; and `seek`'s window,
 -- which holds the entry that is sought wherever the list does.
 -- Assumes nothing.
 use mathlib.Core.Path.{_≡_, refl, sym, _∙_, ap}

@@ -4,3 +4,4 @@ pub mod PathText
 pub mod PathReading
 pub mod PathWriting
 pub mod PathCode
+pub mod PathSpelled

@@ -87,11 +87,11 @@ pub strung-is : (b : List ℕ) (skip dots p n : ℕ) → strung skip dots n (dro
 unfolding strung
 strung-is b skip dots p n = rw (four-is b p, drop-drop 4 p b)
 
-strung-one : (skip dots a b c d : ℕ) (u : List ℕ) → strung skip dots 1 (a ∷ b ∷ c ∷ d ∷ u) ≡ a ∷ b ∷ c ∷ d ∷ []
+pub strung-one : (skip dots a b c d : ℕ) (u : List ℕ) → strung skip dots 1 (a ∷ b ∷ c ∷ d ∷ u) ≡ a ∷ b ∷ c ∷ d ∷ []
 unfolding strung spaced
 strung-one skip dots a b c d u = refl
 
-strung-more : (skip dots n a b c d : ℕ) (u : List ℕ) → strung skip dots (suc (suc n)) (a ∷ b ∷ c ∷ d ∷ u) ≡ a ∷ b ∷ c ∷ d ∷ le dots 0x2E ++ strung skip dots (suc n) (drop skip u)
+pub strung-more : (skip dots n a b c d : ℕ) (u : List ℕ) → strung skip dots (suc (suc n)) (a ∷ b ∷ c ∷ d ∷ u) ≡ a ∷ b ∷ c ∷ d ∷ le dots 0x2E ++ strung skip dots (suc n) (drop skip u)
 unfolding strung spaced
 strung-more skip dots n a b c d u = rw (sub-one (suc (suc n)), sub-one (suc n), drop-drop 4 skip u)
 

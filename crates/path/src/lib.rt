@@ -1,9 +1,9 @@
 // Paths, for the checker, the encoder and the decoder: text is checked and written as bytes, bytes are read
 // strictly and written as text. Every loop goes from segment to segment.
 ghost use mathlib.Core.Path.{_≡_};
-ghost use Prim.Native.Nat.{_+_, _-_, _*_, _≤_};
+ghost use Prim.Native.Nat.{_+_, _-_, _*_, _≤_, _<_};
 ghost use lib.Dec.{T};
-ghost use lib.ListN.{length, drop};
+ghost use lib.ListN.{length, drop, getD};
 ghost use Rattle.octets.specs.Filling.{Wrote};
 ghost use Rattle.octets.specs.Reading.{Reads};
 ghost use Rattle.path.specs.Path.{leadName, nameChar, isPath, countBytes, pathBytes, getCount, getPathLength, pathText};
@@ -11,6 +11,7 @@ ghost use Rattle.path.specs.PathLaws.{rootSize};
 ghost use Rattle.path.specs.PathText.{segmentAt};
 ghost use Rattle.path.specs.PathReading.{runs};
 ghost use Rattle.path.specs.PathWriting.{spaced, strung};
+ghost use Rattle.path.specs.PathSpelled.{spelled};
 use octets::Num;
 use octets::between;
 use octets::both;
@@ -57,7 +58,7 @@ pub fn is_segment(b: &[u8], at: usize) -> bool
 // ── Path text
 
 // How many bytes from `at` on are a root mark.
-fn root_at(b: &[u8], at: usize) -> usize
+pub fn root_at(b: &[u8], at: usize) -> usize
     ensures { λ r. ⌜ r ≡ rootSize (drop at (now (b .entry))) ⌝ }
 {
     if b.len() <= at {
@@ -254,4 +255,19 @@ pub fn put_path_text(b: &[u8], at: usize, out: &mut [u8]) -> usize
         }
         Num::None => 0,
     }
+}
+
+// Byte i of the text that `head` and the segments in `rest` spell.
+pub fn spelled_at(head: &[u8], rest: &[u8], i: usize) -> u8
+    requires { ⌜ i < length (spelled (now head) (now rest)) ⌝ }
+    ensures { λ r. ⌜ r ≡ getD (spelled (now (head .entry)) (now (rest .entry))) i 0 ⌝ }
+{
+    if i < head.len() {
+        return head[i];
+    }
+    let j = i - head.len();
+    if j % 5 == 4 {
+        return 0x2E;
+    }
+    rest[j - j / 5]
 }
