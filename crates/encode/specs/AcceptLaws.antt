@@ -45,7 +45,7 @@ unfolding refusalOf
 accepted-layout f h = layout-passed (layoutOf f .number) _ h
 
 -- the records' section is not too long, and the pool is as long as the header says
-abbrev Limited : List ℕ → Layout → Type 0
+abbrev pub Limited : List ℕ → Layout → Type 0
 Limited f l = (l .arities ≤ 1572924) × (length f ≡ l .pool + poolLength f)
 
 touching-sized : (f : List ℕ) → T (laidOut f) → T (few f) → Limited f (record { number = 0; arities = arityOffset f; pool = poolOffset f })
@@ -56,7 +56,7 @@ touching-sized f t u =
     let k : recordCount f ≤ 65536 = leb→le (recordCount f) 65536 (search and-left depth 10) in
     (omega (arith, e, k), h)
 
-layout-sized : (f : List ℕ) → layoutOf f .number ≡ 0 → Limited f (layoutOf f)
+pub layout-sized : (f : List ℕ) → layoutOf f .number ≡ 0 → Limited f (layoutOf f)
 unfolding layoutOf
 layout-sized f z = by (laidOut f) (few f) (record { number = 0; arities = arityOffset f; pool = poolOffset f }) (touching-sized f) z
   where

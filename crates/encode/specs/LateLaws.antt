@@ -20,6 +20,7 @@ use Rattle.tree.specs.Normal.{norm, bodyFits, roomy}
 use Rattle.tree.specs.NormalLaws.{norm-depth, bytes-norm}
 use Rattle.term.specs.File.{identity}
 use Rattle.term.specs.Record.{recordsOf, recordsFrom}
+use Rattle.sdt.specs.Table.{opened, sealed}
 use Rattle.arity.specs.Arity.{argsOf}
 use Rattle.checker.specs.Refusal.{refusalOf, recordSection, aritySection, poolSection}
 use Rattle.checker.specs.Accepted.{termOf, forestOf, accepted-forest}
@@ -34,11 +35,11 @@ unfolding box
 box-most true bs = simp length-append (omega arith)
 box-most false bs = omega arith
 
-body-most : (r : Row) (v : Fields) (n : ℕ) (bs : List ℕ) → length (body r v n bs) ≤ length (termBytes r v n bs)
+pub body-most : (r : Row) (v : Fields) (n : ℕ) (bs : List ℕ) → length (body r v n bs) ≤ length (termBytes r v n bs)
 unfolding termBytes
 body-most r v n bs = simp length-append (omega (arith, box-most (r .boxed) (body r v n bs)))
 
-kids-most : (r : Row) (v : Fields) (n : ℕ) (bs : List ℕ) → length bs ≤ length (body r v n bs)
+pub kids-most : (r : Row) (v : Fields) (n : ℕ) (bs : List ℕ) → length bs ≤ length (body r v n bs)
 unfolding body
 kids-most r v n bs = simp length-append (omega arith)
 
@@ -72,7 +73,7 @@ late-is n = rw (many-or-deep (length (flatten n)) (depth n)) (ap (λ (k : ℕ). 
     by false e = rw (test-true (roomy n) (roomy-small n (omega (arith, ltb-false 268435455 (36 + length (bytes n)) e)))) refl
 
 -- ── An accepted file
-terms-count : (records pool : List ℕ) → length records / 24 ≡ length (termsFrom records pool 0)
+pub terms-count : (records pool : List ℕ) → length records / 24 ≡ length (termsFrom records pool 0)
 unfolding termsFrom recordsFrom
 terms-count records pool = sym (length-map (recordsOf records 0 (length records / 24 - 0)) (termOf pool) ∙ records-length records 0 (length records / 24 - 0) ∙ omega arith)
 
@@ -84,10 +85,25 @@ walk-is f g e h =
     let t : termsFrom (recordSection f) (poolSection f) 0 ≡ flatten g = flatten-build _ g e in
     rw (terms-count (recordSection f) (poolSection f), t) (walk-all g 64 h)
 
-pub encode-accepted : (f out : List ℕ) → refusalOf f .number ≡ 0 → encodeOf f out ≡ walked (identity f) (whole (recordSection f) (poolSection f)) out
-unfolding encodeOf outcomeOf walked described tableOf
-encode-accepted f out z =
+-- the walk's bytes are the normal form's
+pub walk-bytes : (f : List ℕ) → refusalOf f .number ≡ 0 → whole (recordSection f) (poolSection f) .bytes ≡ bytes (norm (described (forestOf f)))
+unfolding described
+walk-bytes f z =
+    let (g, e, h) = accepted-forest f z in
+    let w = walk-is f g e (norm-depth (argsOf (aritySection f) (poolSection f)) (λ _. InList) 64 0 g h) in
+    rw (w, e) (bytes-norm (argsOf (aritySection f) (poolSection f)) (λ _. InList) 64 0 g h)
+
+pub outcome-accepted : (make : Forest → List ℕ) (f out : List ℕ) → refusalOf f .number ≡ 0 → outcomeOf make f out ≡ walked (make (described (forestOf f))) (whole (recordSection f) (poolSection f)) out
+unfolding outcomeOf walked described
+outcome-accepted make f out z =
     let (g, e, h) = accepted-forest f z in
     let b = bytes-norm (argsOf (aritySection f) (poolSection f)) (λ _. InList) 64 0 g h in
     let w = walk-is f g e (norm-depth (argsOf (aritySection f) (poolSection f)) (λ _. InList) 64 0 g h) in
     rw (w, eq-eqb (refusalOf f .number) 0 z, e, late-is (norm g), b) refl
+
+pub encode-accepted : (f out : List ℕ) → refusalOf f .number ≡ 0
+    → encodeOf f out ≡ walked (sealed (opened (identity f) (whole (recordSection f) (poolSection f) .bytes))) (whole (recordSection f) (poolSection f)) out
+unfolding encodeOf tableOf
+encode-accepted f out z =
+    outcome-accepted (tableOf (identity f)) f out z
+    ∙ ap (λ (bs : List ℕ). walked (sealed (opened (identity f) bs)) (whole (recordSection f) (poolSection f)) out) (sym (walk-bytes f z))

@@ -71,28 +71,32 @@ module _ {p : Part} {records pool : List ℕ} {size n : ℕ} {deep : Bool} {next
   number-is : k ≡ numberOf p
   number-is = rw (← (m .counted), ← (m .recorded), ← (m .deepened)) e
 
-  module _ (id out : List ℕ) where
+  module _ (bs out : List ℕ) where
     -- 11, 12
-    pub walked-refused : (k ≡ 0 → ⊥) → Answered (record { number = k; index = 0; length = 0 }) out (walked id p out)
+    pub walked-refused : (k ≡ 0 → ⊥) → Answered (record { number = k; index = 0; length = 0 }) out (walked bs p out)
     unfolding walked refusedBy
     walked-refused z = let q = number-is in rw (ne-eqb (numberOf p) 0 (λ h. z (q ∙ h)), ← q) (record { answer = refl; output = refl })
 
-    module _ (z : k ≡ 0) (l : length id ≡ 31) where
-      length-is : length (sealed (opened id (p .bytes))) ≡ 36 + size
-      length-is = let o = opened-length id (p .bytes) l in sealed-length (opened id (p .bytes)) (omega arith) ∙ omega (arith, o, m .counted)
-
-      -- the table fits
-      pub walked-room : 36 + size ≤ length out → TableRoom id p out
-      walked-room h = record { own = l; fits = omega (arith, m .counted); few = omega (arith, m .counted, figures-small n deep size e z) }
-
+    module _ (z : k ≡ 0) {s : ℕ} (l : length bs ≡ s) where
       -- 14
-      pub walked-short : length out < 36 + size → Answered (record { number = 14; index = 0; length = 0 }) out (walked id p out)
+      pub walked-short : length out < s → Answered (record { number = 14; index = 0; length = 0 }) out (walked bs p out)
       unfolding walked handed refusedBy
-      walked-short h = rw (eq-eqb (numberOf p) 0 (sym number-is ∙ z), lt-ltb (length out) (length (sealed (opened id (p .bytes)))) (omega (arith, length-is))) (record { answer = refl; output = refl })
+      walked-short h = rw (eq-eqb (numberOf p) 0 (sym number-is ∙ z), lt-ltb (length out) (length bs) (omega (arith, l))) (record { answer = refl; output = refl })
 
-      pub walked-done : {ys : List ℕ} {r : ℕ} → 36 + size ≤ length out → Wrote (sealed (opened id (p .bytes))) out ys r → Answered (record { number = 0; index = 0; length = r }) ys (walked id p out)
+      pub walked-done : {ys : List ℕ} {r : ℕ} → s ≤ length out → Wrote bs out ys r → Answered (record { number = 0; index = 0; length = r }) ys (walked bs p out)
       unfolding walked handed
-      walked-done h w = rw (eq-eqb (numberOf p) 0 (sym number-is ∙ z), le-ltb (length out) (length (sealed (opened id (p .bytes)))) (omega (arith, length-is)), w .count) (record { answer = refl; output = w .is })
+      walked-done h w = rw (eq-eqb (numberOf p) 0 (sym number-is ∙ z), le-ltb (length out) (length bs) (omega (arith, l)), w .count) (record { answer = refl; output = w .is })
+
+  module _ (id : List ℕ) (l : length id ≡ 31) where
+    abbrev pub tableBytes : List ℕ
+    tableBytes = sealed (opened id (p .bytes))
+
+    pub table-length : length tableBytes ≡ 36 + size
+    table-length = let o = opened-length id (p .bytes) l in sealed-length (opened id (p .bytes)) (omega arith) ∙ omega (arith, o, m .counted)
+
+    -- the table fits
+    pub table-fits : (out : List ℕ) → k ≡ 0 → 36 + size ≤ length out → TableRoom id p out
+    table-fits out z h = record { own = l; fits = omega (arith, m .counted); few = omega (arith, m .counted, figures-small n deep size e z) }
 
 -- ── The sections that the code cuts out of an accepted file
 module _ (f : List ℕ) {v : Verdict} (ev : v ≡ refusalOf f) (zv : v .number ≡ 0) where
@@ -114,6 +118,6 @@ module _ (f : List ℕ) {v : Verdict} (ev : v ≡ refusalOf f) (zv : v .number �
       pub cut-sound : Sound (part f 60 (l .arities)) (part f (l .pool) (l .pool + k))
       cut-sound = rw (e, pool-ends f passed d) (accepted-sound f passed d)
 
-      pub cut-answered : (first : List ℕ) {r : Answer} {out : List ℕ} → Answered r out (walked (take 31 (drop 28 f)) (whole (part f 60 (l .arities)) (part f (l .pool) (l .pool + k))) first) → Answered r out (encodeOf f first)
+      pub cut-answered : (first : List ℕ) {r : Answer} {out : List ℕ} → Answered r out (walked (sealed (opened (take 31 (drop 28 f)) (whole (part f 60 (l .arities)) (part f (l .pool) (l .pool + k)) .bytes))) (whole (part f 60 (l .arities)) (part f (l .pool) (l .pool + k))) first) → Answered r out (encodeOf f first)
       unfolding identity
       cut-answered first h = rw (encode-accepted f first passed) (rw (e, pool-ends f passed d) at h)

@@ -185,7 +185,14 @@ fn write_term(records: &[u8], pool: &[u8], i: usize, levels: usize, out: &mut [u
     }
 }
 
-fn write_list(records: &[u8], pool: &[u8], n: u64, i: usize, levels: usize, out: &mut [u8]) -> Done
+pub fn write_list(
+    records: &[u8],
+    pool: &[u8],
+    n: u64,
+    i: usize,
+    levels: usize,
+    out: &mut [u8],
+) -> Done
     requires { ⌜ Sound (now records) (now pool) × (levels ≤ 64) × Room (list (term levels) n (termsFrom (now records) (now pool) i)) (now out) ⌝ }
     ensures { λ d. ⌜ Put (list (term levels) n (termsFrom (now (records .entry)) (now (pool .entry)) i)) (now (records .entry)) (now (pool .entry)) (now (out .entry)) (now (out .exit)) (d .size) (d .next) ⌝ }
 {
@@ -205,7 +212,7 @@ fn write_list(records: &[u8], pool: &[u8], n: u64, i: usize, levels: usize, out:
 
 // 11 or 12, or 0: so many records in normal form, whether they are too deep, so many bytes. A table of this size has no body over
 // the range of its PkgLength, so 13 cannot come behind 12.
-fn late_number(records: u64, deep: bool, size: u64) -> u32
+pub fn late_number(records: u64, deep: bool, size: u64) -> u32
     ensures { λ r. ⌜ r ≡ figuresNumber records deep size ⌝ }
 {
     if octets::either(65536 < records, deep) {
@@ -242,7 +249,7 @@ fn put_table(identity: &[u8], records: &[u8], pool: &[u8], out: &mut [u8]) -> us
 // Refusals 11, 12 and 14, or the table.
 fn encode_sections(identity: &[u8], records: &[u8], pool: &[u8], out: &mut [u8]) -> Answer
     requires { ⌜ Sound (now records) (now pool) × (length (now identity) ≡ 31) ⌝ }
-    ensures { λ r. ⌜ Answered r (now (out .exit)) (walked (now (identity .entry)) (whole (now (records .entry)) (now (pool .entry))) (now (out .entry))) ⌝ }
+    ensures { λ r. ⌜ Answered r (now (out .exit)) (walked (sealed (opened (now (identity .entry)) (whole (now (records .entry)) (now (pool .entry)) .bytes))) (whole (now (records .entry)) (now (pool .entry))) (now (out .entry))) ⌝ }
 {
     let n = (records.len() / 24) as u64;
     let s = sizes_of(records, pool, n, 0, 64);

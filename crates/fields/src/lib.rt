@@ -6,7 +6,7 @@ ghost use Rattle.fields.specs.Fields.{flagsFit, formFits, numbersFit, te
 // ── 5: out of range
 
 // A field's flags: access 0-5, plus 16 for lock, plus 32 times an update rule 0-2.
-fn flags_fit(a: u64) -> bool
+pub fn flags_fit(a: u64) -> bool
     ensures { λ r. ⌜ r ≡ flagsFit a ⌝ }
 {
     octets::both(a % 16 <= 5, a / 32 <= 2)

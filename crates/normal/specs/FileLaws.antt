@@ -100,18 +100,19 @@ module _ (id : List ℕ) (ars : List Arity) (f : Forest) where
   pool-end : 60 + 24 * n + 8 * length ars + length pool ≡ 60 + 24 * n + 8 * length ars + p
   pool-end = ap (λ k. 60 + 24 * n + 8 * length ars + k) (length-append (arityTexts ars) (termTexts (flatten f)))
 
-  module _ (w : Writable id ars f) where
+  module _ (i : length id ≡ 31) where
     header-end : length header ≡ 60
-    header-end = header-length id n (length ars) p (w .identity-length)
+    header-end = header-length id n (length ars) p i
 
     pub file-length : length (fileOf id ars f) ≡ 60 + 24 * length (flatten f) + 8 * length ars + (length (arityTexts ars) + length (termTexts (flatten f)))
     unfolding fileOf
     file-length =
         omega (arith, header-end, records-end, arities-end, pool-end, length-append header (records ++ (arities ++ pool)), length-append records (arities ++ pool), length-append arities pool)
 
+  module _ (w : Writable id ars f) where
     header-facts : (layoutOf file ≡ laidFor n (length ars)) × (identity file ≡ id)
     header-facts =
-        header-back file id n (length ars) p (w .identity-length) (w .few-terms) (w .few-arities) (w .pool) (stands-left header _ whole) file-length
+        header-back file id n (length ars) p (w .identity-length) (w .few-terms) (w .few-arities) (w .pool) (stands-left header _ whole) (file-length (w .identity-length))
 
     pub file-layout : layoutOf (fileOf id ars f) ≡ record { number = 0; arities = 60 + 24 * length (flatten f); pool = 60 + 24 * length (flatten f) + 8 * length ars }
     file-layout = header-facts .0
@@ -120,7 +121,7 @@ module _ (id : List ℕ) (ars : List Arity) (f : Forest) where
     file-identity = header-facts .1
 
     records-stand : Stands file 60 (records ++ (arities ++ pool))
-    records-stand = stands-right header _ 60 (omega (arith, header-end)) whole
+    records-stand = stands-right header _ 60 (omega (arith, header-end (w .identity-length))) whole
 
     arities-stand : Stands file (60 + 24 * n) (arities ++ pool)
     arities-stand = stands-right records _ _ records-end records-stand
@@ -135,7 +136,7 @@ module _ (id : List ℕ) (ars : List Arity) (f : Forest) where
     arity-section = rw file-layout (stands-between arities _ arities-end (stands-left arities pool arities-stand))
 
     pub pool-section : poolSection (fileOf id ars f) ≡ arityTexts ars ++ termTexts (flatten f)
-    pool-section = rw (file-layout, file-length) (stands-between pool _ pool-end pool-stands)
+    pool-section = rw (file-layout, file-length (w .identity-length)) (stands-between pool _ pool-end pool-stands)
 
     -- ── What the sections say is what was written
     texts-stand : Stands pool (length (arityTexts ars)) (termTexts (flatten f))

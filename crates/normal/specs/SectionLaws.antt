@@ -55,11 +55,12 @@ text-room t ts at h =
 next-text : {pool : List ℕ} {at : ℕ} (t ts : List ℕ) → Stands pool at (t ++ ts) → Stands pool at t × Stands pool (at + length t) ts
 next-text t ts h = (stands-left t ts h, stands-right t ts _ refl h)
 
-next-entry : {b : List ℕ} (width i : ℕ) (xs ys : List ℕ) → length xs ≡ width → Stands b (width * i) (xs ++ ys) → Stands b (width * i) xs × Stands b (width * suc i) ys
+pub next-entry : {b : List ℕ} (width i : ℕ) (xs ys : List ℕ) → length xs ≡ width → Stands b (width * i) (xs ++ ys) → Stands b (width * i) xs × Stands b (width * suc i) ys
 next-entry width i xs ys e h = (stands-left xs ys h, stands-right xs ys (width * suc i) (omega (arith, mul-suc width i)) h)
 
 -- ── Records
-unfoldable recordOf : Term → ℕ → Record
+-- of a term whose text starts there
+abbrev pub recordOf : Term → ℕ → Record
 recordOf t start = record { kind = t .kind; a = t .fields .a; kids = t .kids; x = t .fields .x; start = start; len = length (t .fields .text) }
 
 -- of terms whose texts stand in the pool from a place on
@@ -67,7 +68,7 @@ unfoldable recordsWritten : ℕ → List Term → List Record
 recordsWritten at [] = []
 recordsWritten at (t ∷ ts) = recordOf t (startOf (length (t .fields .text)) at) ∷ recordsWritten (at + length (t .fields .text)) ts
 
-record-length : (t : Term) (start : ℕ) → length (recordBytes t start) ≡ 24
+pub record-length : (t : Term) (start : ℕ) → length (recordBytes t start) ≡ 24
 unfolding recordBytes
 record-length t start = simp (length-append, le-length)
 
@@ -78,9 +79,9 @@ records-length at (t ∷ ts) =
     let n = length (t .fields .text) in
     omega (arith, length-append (recordBytes t (startOf n at)) (recordsBytes (at + n) ts), record-length t (startOf n at), records-length (at + n) ts)
 
-record-back : (b : List ℕ) (i : ℕ) (t : Term) (start : ℕ) → TermSizes t → start < 4294967296 → length (t .fields .text) < 4294967296
+pub record-back : (b : List ℕ) (i : ℕ) (t : Term) (start : ℕ) → TermSizes t → start < 4294967296 → length (t .fields .text) < 4294967296
     → Stands b (24 * i) (recordBytes t start) → recordAt b i ≡ recordOf t start
-unfolding recordBytes recordOf
+unfolding recordBytes
 record-back b i t start z s l h =
     let (e₁, h₁) = stands-field 2 (t .kind) _ (24 * i + 2) (z .kind) (omega arith) h in
     let (e₂, h₂) = stands-field 2 (t .fields .a) _ (24 * i + 4) (z .a) (omega arith) h₁ in
@@ -105,14 +106,14 @@ unfolding recordsFrom
 all-records b n e = let k : length b / 24 - 0 ≡ n = omega arith in rw k refl
 
 terms-back : {pool : List ℕ} (at : ℕ) (ts : List Term) → Stands pool at (termTexts ts) → map (termOf pool) (recordsWritten at ts) ≡ ts
-unfolding termTexts recordsWritten recordOf termOf textOf
+unfolding termTexts recordsWritten termOf textOf
 terms-back at [] h = refl
 terms-back at (t ∷ ts) h =
     let (h₁, h₂) = next-text (t .fields .text) (termTexts ts) h in
     ap₂ (λ x r. x ∷ r) (rw (text-back (t .fields .text) h₁) refl) (terms-back _ ts h₂)
 
 terms-inside : {pool : List ℕ} (at : ℕ) (ts : List Term) → Stands pool at (termTexts ts) → InPool pool (recordsWritten at ts)
-unfolding termTexts recordsWritten recordOf InPool inPool
+unfolding termTexts recordsWritten InPool inPool
 terms-inside at [] h = tt
 terms-inside {pool} at (t ∷ ts) h =
     let n = length (t .fields .text) in

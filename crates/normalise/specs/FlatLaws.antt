@@ -98,9 +98,16 @@ texts-weighed (suc n) (t ∷ ts) =
 abbrev pub termAt : List ℕ → List ℕ → ℕ → Term
 termAt records pool i = termOf pool (recordAt records i)
 
+-- the bytes of its children, and what it becomes
+abbrev pub kidsAt : List ℕ → List ℕ → ℕ → List ℕ
+kidsAt records pool i = childrenOf (termAt records pool i) (termsFrom records pool (i + 1)) .bytes
+
+abbrev pub becomesAt : List ℕ → List ℕ → ℕ → List Term
+becomesAt records pool i = becomes (termAt records pool i) (kidsAt records pool i)
+
 -- what the step at i finds
 pub record Stepped (records pool : List ℕ) (i texts next : ℕ) : Type 0 where
-  pub counted : texts ≡ length (termTexts (becomes (termAt records pool i) (childrenOf (termAt records pool i) (termsFrom records pool (i + 1)) .bytes)))
+  pub counted : texts ≡ length (termTexts (becomesAt records pool i))
   pub goes : onward (termAt records pool i) (termsFrom records pool (i + 1)) ≡ termsFrom records pool next
 
 module _ (records pool : List ℕ) (i : ℕ) {r : Record} (e : r ≡ recordAt records i) {t : List ℕ} (g : t ≡ textAt pool (r .start) (r .len)) {b : Bool} (c : b ≡ changes (r .kind)) where
@@ -127,20 +134,27 @@ pub children-few : (records pool : List ℕ) → Small records pool → (i n : �
     → Measured (list (term 64) n (termsFrom records pool i)) records pool size k deep next → size ≤ 281474983002112
 children-few records pool s i n m = omega (arith, m .counted, list-fits records pool s 64 i n .bytes)
 
--- ── The text that the records from i on become
+-- ── What the records from i on become, and its text
+abbrev pub normalFrom : List ℕ → List ℕ → ℕ → List Term
+normalFrom records pool i = normalTerms (length records / 24) (termsFrom records pool i)
+
 abbrev pub textsFrom : List ℕ → List ℕ → ℕ → ℕ
-textsFrom records pool i = length (termTexts (normalTerms (length records / 24) (termsFrom records pool i)))
+textsFrom records pool i = length (termTexts (normalFrom records pool i))
 
 pub texts-most : (records pool : List ℕ) → Small records pool → (i : ℕ) → textsFrom records pool i ≤ 281474983002112
 texts-most records pool s i = omega (arith, texts-weighed (length records / 24) (termsFrom records pool i), terms-weighed records pool i s)
 
-pub texts-none : (records pool : List ℕ) (i : ℕ) → length records / 24 ≤ i → textsFrom records pool i ≡ 0
-unfolding normalTerms termTexts
-texts-none records pool i h = rw (terms-none records pool i h) (by (length records / 24))
+pub normal-none : (records pool : List ℕ) (i : ℕ) → length records / 24 ≤ i → normalFrom records pool i ≡ []
+unfolding normalTerms
+normal-none records pool i h = rw (terms-none records pool i h) (by (length records / 24))
   where
-    by : (n : ℕ) → length (termTexts (normalTerms n [])) ≡ 0
+    by : (n : ℕ) → normalTerms n [] ≡ []
     by zero = refl
     by (suc n) = refl
+
+pub texts-none : (records pool : List ℕ) (i : ℕ) → length records / 24 ≤ i → textsFrom records pool i ≡ 0
+unfolding termTexts
+texts-none records pool i h = rw (normal-none records pool i h) refl
 
 terms-left : (records pool : List ℕ) (i : ℕ) → length (termsFrom records pool i) ≡ length records / 24 - i
 unfolding termsFrom recordsFrom
@@ -158,10 +172,13 @@ module _ {records pool : List ℕ} {i texts next : ℕ} (h : i < length records 
       let e : length (onward (termAt records pool i) (termsFrom records pool (i + 1))) ≡ length records / 24 - next = ap length (s .goes) ∙ terms-left records pool next in
       omega (arith, onward-rest (termAt records pool i) (termsFrom records pool (i + 1)), terms-left records pool (i + 1))
 
-  pub step-texts : textsFrom records pool i ≡ texts + textsFrom records pool next
-  step-texts =
+  pub step-normal : normalFrom records pool i ≡ becomesAt records pool i ++ normalFrom records pool next
+  step-normal =
       let q = normal-more (length records / 24) (termAt records pool i) (termsFrom records pool (i + 1)) (omega (arith, terms-left records pool (i + 1))) in
-      rw (terms-more records pool i h, q, texts-append, s .goes, length-append, ← (s .counted)) refl
+      rw (terms-more records pool i h, q, s .goes) refl
+
+  pub step-texts : textsFrom records pool i ≡ texts + textsFrom records pool next
+  step-texts = rw (step-normal, texts-append, length-append, ← (s .counted)) refl
 
 -- ── The pass at work: so much text is counted, and the records from i on make up the whole
 pub record Passing (records pool : List ℕ) (i total : ℕ) : Type 0 where

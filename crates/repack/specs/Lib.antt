@@ -1,2 +1,3 @@
 pub mod Repack
 pub mod RepackLaws
+pub mod PackLaws

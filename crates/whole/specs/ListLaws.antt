@@ -64,7 +64,7 @@ unfolding entriesOf
 entries-count b pool j zero = refl
 entries-count b pool j (suc n) = ap suc (entries-count b pool (suc j) n)
 
-pub arities-count : (b pool : List ℕ) → length (aritiesOf b pool) ≤ length b / 8
+pub arities-count : (b pool : List ℕ) → length (aritiesOf b pool) ≡ length b / 8
 unfolding aritiesOf entriesFrom
 arities-count b pool = omega (arith, entries-count b pool 0 (length b / 8 - 0))
 

@@ -59,7 +59,7 @@ sound-late l g s =
     rw (le-leb (length (flatten g)) 65536 (s .few), le-leb (depth g) 64 (norm-depth (argsIn l) (λ _. InList) 64 0 g (s .fits)), le-ltb 268435455 (36 + length (bytes g)) (s .size), test-true (roomy g) (s .roomy)) refl
 
 -- what is tested before the records
-early-facts : (f : List ℕ) → refusalOf f .number ≡ 0 → (layoutOf f .number ≡ 0) × (aritiesFit (aritySection f) (poolSection f) ≡ true)
+pub early-facts : (f : List ℕ) → refusalOf f .number ≡ 0 → (layoutOf f .number ≡ 0) × (aritiesFit (aritySection f) (poolSection f) ≡ true)
 unfolding refusalOf
 early-facts f h = by (eqb (layoutOf f .number) 0) refl (aritiesFit (aritySection f) (poolSection f)) h
   where

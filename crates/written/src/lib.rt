@@ -15,7 +15,7 @@ ghost use Rattle.written.specs.FineLaws.{TextTakes, FormTakes, Held};
 // ── Text
 
 // The integer of a well-formed EISA id.
-fn eisa_value(t: &[u8]) -> u64
+pub fn eisa_value(t: &[u8]) -> u64
     requires { ⌜ T (isEisa (now t)) ⌝ }
     ensures { λ r. ⌜ r ≡ eisaId (now (t .entry)) ⌝ }
 {
