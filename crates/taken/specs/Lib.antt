@@ -1,0 +1,3 @@
+pub mod Taken
+pub mod TakenLaws
+pub mod Standing
