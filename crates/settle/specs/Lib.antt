@@ -1,0 +1,4 @@
+pub mod Settle
+pub mod Parted
+pub mod Moving
+pub mod SettleLaws
