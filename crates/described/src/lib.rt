@@ -339,14 +339,23 @@ pub fn put_file(b: &[u8], from: usize, to: usize, out: &mut [u8]) -> usize {
     p.end
 }
 
-// Where a line's name ends: behind =, or where the line ends.
-pub fn name_end(b: &[u8], from: usize, to: usize) -> usize {
+// Where `mark` first stands in a line, or where the line ends.
+pub fn mark_at(b: &[u8], mark: u8, from: usize, to: usize) -> usize {
     let mut i = from;
     while i < to {
-        if byte_at(b, i) == b'=' {
-            return i + 1;
+        if byte_at(b, i) == mark {
+            return i;
         }
         i = i + 1;
+    }
+    to
+}
+
+// Where a line's name ends: behind =, or where the line ends.
+pub fn name_end(b: &[u8], from: usize, to: usize) -> usize {
+    let i = mark_at(b, b'=', from, to);
+    if i < to {
+        return i + 1;
     }
     to
 }

@@ -1,10 +1,10 @@
--- `encode_runs::fill` writes only bytes that are there, ends, and keeps the length. Assumes nothing.
+-- `shown::fill` writes only bytes that are there, ends, and keeps the length. Assumes nothing.
 use Prim.Native.Nat.{_-_}
 use mathlib.Core.Path.{_≡_}
 use lib.ListN.{length}
 use borrow.Author.Needs.{needs}
-use Rattle.encode_runs.proofs.fill.Statement.{statement}
-use Rattle.encode_runs.proofs.fill.Tie as tie
+use Rattle.shown.proofs.fill.Statement.{statement}
+use Rattle.shown.proofs.fill.Tie as tie
 
 abbrev Inv-loop : tie.InvT-loop
 Inv-loop out₀ i₀ out i = length out ≡ length out₀

@@ -1,8 +1,8 @@
--- `encode_runs::lines` ends. Assumes nothing.
+-- `normalise_runs::lines` ends. Assumes nothing.
 use Prim.Native.Nat.{_-_}
 use borrow.Author.Needs.{needs}
-use Rattle.encode_runs.proofs.lines.Statement.{statement}
-use Rattle.encode_runs.proofs.lines.Tie as tie
+use Rattle.normalise_runs.proofs.lines.Statement.{statement}
+use Rattle.normalise_runs.proofs.lines.Tie as tie
 
 abbrev Inv-loop : tie.InvT-loop
 Inv-loop b n from₀ i₀ from i = Unit {0}

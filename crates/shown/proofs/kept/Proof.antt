@@ -1,9 +1,9 @@
--- `encode_runs::kept` reads only bytes that are there, and ends. Assumes nothing.
+-- `shown::kept` reads only bytes that are there, and ends. Assumes nothing.
 use Prim.Native.Nat.{_-_}
 use lib.ListN.{length}
 use borrow.Author.Needs.{needs}
-use Rattle.encode_runs.proofs.kept.Statement.{statement}
-use Rattle.encode_runs.proofs.kept.Tie as tie
+use Rattle.shown.proofs.kept.Statement.{statement}
+use Rattle.shown.proofs.kept.Tie as tie
 
 abbrev Inv-loop : tie.InvT-loop
 Inv-loop out from i₀ i = Unit {0}
