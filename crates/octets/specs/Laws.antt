@@ -1,6 +1,7 @@
 -- Laws of the definitions in Bytes: parts and numbers are read back as they were written, and nothing else is read.
 -- Assumes nothing.
 use mathlib.Core.Path.{_≡_, refl, sym, _∙_, ap, ap₂}
+use mathlib.Core.Bool.{Bool, _&&_, and-assoc}
 use mathlib.Core.Option.{none, some, Option·none-ne-some}
 use mathlib.Core.List.{List, [], _∷_, _++_}
 use Prim.Native.Nat.{ℕ, zero, suc, _+_, _-_, _*_, _/_, _%_, _^_, _≤_, _<_}
@@ -54,6 +55,12 @@ begins-only (c ∷ cs) [] t = absurd t
 begins-only (c ∷ cs) (b ∷ bs) t =
     ap₂ (λ x y. x ∷ y) (eqb→eq b c (and-left (eqb b c) (begins cs bs) t)) (begins-only cs bs (and-right (eqb b c) (begins cs bs) t))
 
+-- a test of every byte of two lists, one after the other
+pub every-join : (f : ℕ → Bool) (l r : List ℕ) → every f (l ++ r) ≡ every f l && every f r
+unfolding every
+every-join f [] r = refl
+every-join f (b ∷ l) r = rw (every-join f l r, and-assoc)
+
 -- ── Numbers
 pub le-length : (n x : ℕ) → length (le n x) ≡ n
 unfolding le
@@ -89,6 +96,14 @@ le-join (suc m) n x y h =
     let lo : (x + 256 * (256 ^ m * y)) % 256 ≡ x % 256 = omega arith in
     let hi : (x + 256 * (256 ^ m * y)) / 256 ≡ x / 256 + 256 ^ m * y = omega arith in
     rw (e, q, lo, hi, le-join m n (x / 256) y z)
+
+-- the number in two lists, one after the other
+pub value-join : (l r : List ℕ) → value (l ++ r) ≡ value l + 256 ^ length l * value r
+unfolding value
+value-join [] r = omega arith
+value-join (b ∷ l) r =
+    let p : 256 ^ suc (length l) * value r ≡ 256 * (256 ^ length l * value r) = rw (pow-suc 256 (length l), mul-256) in
+    rw (value-join l r, p) (omega arith)
 
 pub value-small : (l : List ℕ) → T (every isByte l) → value l < 256 ^ length l
 unfolding value every

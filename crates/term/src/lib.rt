@@ -94,18 +94,20 @@ pub fn lay_out(file: &[u8]) -> Layout
 
 // ── Records and texts
 
-// Record i of the section b.
+// Record i of the section b, read as three numbers of eight bytes and taken apart: three loads instead of twenty-four.
 pub fn record_at(b: &[u8], i: usize) -> Record
     requires { ⌜ i < length (now b) / 24 ⌝ }
     ensures { λ r. ⌜ r ≡ recordAt (now (b .entry)) i ⌝ }
 {
     let at = 24 * i;
-    let kind = octets::get_le(b, at, 2);
-    let a = octets::get_le(b, at + 2, 2);
-    let kids = octets::get_le(b, at + 4, 4);
-    let x = octets::get_le(b, at + 8, 8);
-    let start = octets::get_le(b, at + 16, 4);
-    let len = octets::get_le(b, at + 20, 4);
+    let w = octets::get_u64(b, at);
+    let x = octets::get_u64(b, at + 8);
+    let v = octets::get_u64(b, at + 16);
+    let kind = w % 65536;
+    let a = w / 65536 % 65536;
+    let kids = w / 4294967296;
+    let start = v % 4294967296;
+    let len = v / 4294967296;
     Record {
         kind,
         a,
