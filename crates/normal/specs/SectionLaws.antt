@@ -2,7 +2,7 @@
 -- Assumes nothing.
 use mathlib.Core.Path.{_≡_, refl, sym, _∙_, ap₂}
 use mathlib.Core.Bool.{true, _||_}
-use mathlib.Core.List.{List, [], _∷_, _++_, map}
+use mathlib.Core.List.{List, [], _∷_, _++_, map, append-assoc}
 use Prim.Native.Nat.{ℕ, zero, suc, _+_, _-_, _*_, _/_, _≤_, _<_}
 use native.Mathlib.Omega.{arith}
 use native.Mathlib.Nat.{mul-suc}
@@ -78,6 +78,12 @@ records-length at [] = refl
 records-length at (t ∷ ts) =
     let n = length (t .fields .text) in
     omega (arith, length-append (recordBytes t (startOf n at)) (recordsBytes (at + n) ts), record-length t (startOf n at), records-length (at + n) ts)
+
+-- the texts of two lists of terms, one after the other
+pub texts-append : (ts us : List Term) → termTexts (ts ++ us) ≡ termTexts ts ++ termTexts us
+unfolding termTexts
+texts-append [] us = refl
+texts-append (t ∷ ts) us = rw (texts-append ts us, append-assoc (t .fields .text) (termTexts ts) (termTexts us)) refl
 
 pub record-back : (b : List ℕ) (i : ℕ) (t : Term) (start : ℕ) → TermSizes t → start < 4294967296 → length (t .fields .text) < 4294967296
     → Stands b (24 * i) (recordBytes t start) → recordAt b i ≡ recordOf t start

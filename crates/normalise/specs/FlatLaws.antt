@@ -2,7 +2,7 @@
 -- Assumes nothing.
 use mathlib.Core.Path.{_≡_, refl, sym, ap, _∙_, subst}
 use mathlib.Core.Bool.{Bool, true, false, _||_, cond}
-use mathlib.Core.List.{List, [], _∷_, _++_, append-assoc}
+use mathlib.Core.List.{List, [], _∷_, _++_}
 use Prim.Native.Nat.{ℕ, zero, suc, _+_, _-_, _/_, _<_, _≤_}
 use native.Mathlib.Omega.{arith}
 use lib.Dec.{T, eqb}
@@ -17,6 +17,7 @@ use Rattle.term.specs.Record.{recordAt, recordsOf, recordsFrom, textAt}
 use Rattle.checker.specs.Refusal.{textOf}
 use Rattle.checker.specs.Accepted.{termOf}
 use Rattle.normal.specs.File.{termTexts}
+use Rattle.normal.specs.SectionLaws.{texts-append}
 use Rattle.encode.specs.Walk.{list, term}
 use Rattle.encode.specs.WalkLaws.{termsFrom, terms-more, terms-none, terms-weighed, weight, list-within, term-within, list-fits, records-length, Small, Measured}
 use Rattle.normalise.specs.Flat.{integerRecords, bufferRecords, becomes, childrenOf, changes, onward, onward-rest, normalTerms, normal-enough}
@@ -42,11 +43,6 @@ module _ (k n m : ℕ) where
   pub texts-other : (k ≡ 0xE001 → ⊥) → (k ≡ 0xE002 → ⊥) → (k ≡ 0xE003 → ⊥) → n ≡ textsIn k n m
   unfolding textsIn
   texts-other x y z = rw (ne-eqb k 0xE001 x, ne-eqb k 0xE002 y, ne-eqb k 0xE003 z) refl
-
-pub texts-append : (ts us : List Term) → termTexts (ts ++ us) ≡ termTexts ts ++ termTexts us
-unfolding termTexts
-texts-append [] us = refl
-texts-append (t ∷ ts) us = rw (texts-append ts us, append-assoc (t .fields .text) (termTexts ts) (termTexts us)) refl
 
 becomes-texts : (t : Term) (bs : List ℕ) → length (termTexts (becomes t bs)) ≡ textsIn (t .kind) (length (t .fields .text)) (length bs)
 unfolding becomes textsIn termTexts flatten

@@ -21,13 +21,14 @@ use Rattle.term.specs.Record.{recordAt, textAt}
 use Rattle.checker.specs.Refusal.{textOf}
 use Rattle.checker.specs.Accepted.{termOf}
 use Rattle.normal.specs.File.{startOf, recordsBytes, termTexts}
+use Rattle.normal.specs.SectionLaws.{texts-append}
 use Rattle.repack.specs.Repack.{packed}
 use Rattle.repack.specs.PackLaws.{record-packed}
 use Rattle.encode.specs.Walk.{isBuffer}
 use Rattle.encode.specs.WalkLaws.{Small}
 use Rattle.encode.specs.Sound.{FineRecord, Sound}
 use Rattle.normalise.specs.Flat.{integerRecords, bufferRecords, becomes}
-use Rattle.normalise.specs.FlatLaws.{texts-append, kidsAt, becomesAt, normalFrom, textsFrom, texts-most, normal-none, texts-none, Stepped, step-normal, step-texts}
+use Rattle.normalise.specs.FlatLaws.{kidsAt, becomesAt, normalFrom, textsFrom, texts-most, normal-none, texts-none, Stepped, step-normal, step-texts}
 use Rattle.normalise.specs.Pack.{integerBytes, bufferBytes, stepBytes, stepAt, kidsFrom, Named, Slender}
 
 -- room for bytes is room for them by another name

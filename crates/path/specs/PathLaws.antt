@@ -11,7 +11,7 @@ use lib.Dec.{T, T-not, eqb, leb, eqb→eq, eqb-refl, leb→le, le→leb, lt→lt
 use lib.ListN.{length, length-append}
 use Rattle.octets.specs.Bytes.{Reader, _>>=_, need, every, isByte, cut}
 use Rattle.octets.specs.Tests.{and-left, and-right, and-both, or-case, or-left, not-equal, cond-false, cond-case, cond-inv, took, took₁, gave, need-inv, need-true}
-use Rattle.octets.specs.Laws.{cut-back, cut-only}
+use Rattle.octets.specs.Laws.{cut-back, cut-only, every-join}
 use Rattle.octets.specs.Exact.{Exact}
 use Rattle.path.specs.Path.{leadName, nameChar, segment, Path, segments, wellFormed, rootOf, unroot, joined, textOf, partsOf, pathOf, isPath, countBytes, bytesOf, pathBytes, getCount, getParts, getPath, getPathText, nameStart}
 
@@ -335,11 +335,6 @@ unfolding bytesOf
 path-head t h = path-known t h λ p w e q. let (s, l, u) = formed p w in rw q (bytes-begun (p .root) (p .parts) s l)
 
 -- ── That they are bytes
-pub every-append : (f : ℕ → Bool) (a b : List ℕ) → T (every f a) → T (every f b) → T (every f (a ++ b))
-unfolding every
-every-append f [] b h k = k
-every-append f (x ∷ a) b h k = and-both (f x) _ (and-left (f x) (every f a) h) (every-append f a b (and-right (f x) (every f a) h) k)
-
 name-small : (b : ℕ) → T (nameChar b) → T (isByte b)
 unfolding nameChar leadName
 name-small b h =
@@ -363,7 +358,8 @@ segments-small : (ss : List (List ℕ)) → T (segments ss) → T (every isByte 
 unfolding segments flatten every
 segments-small [] h = tt
 segments-small (s ∷ ss) h =
-    every-append isByte s (flatten ss) (names-small s (segment-chars s (and-left (segment s) (segments ss) h))) (segments-small ss (and-right (segment s) (segments ss) h))
+    rw (every-join isByte s (flatten ss))
+    (and-both (every isByte s) _ (names-small s (segment-chars s (and-left (segment s) (segments ss) h))) (segments-small ss (and-right (segment s) (segments ss) h)))
 
 root-small : (x : Bool) → T (every isByte (rootOf x))
 unfolding rootOf every
@@ -378,8 +374,9 @@ pub path-bytes-are : (t : List ℕ) → T (isPath t) → T (every isByte (pathBy
 unfolding bytesOf
 path-bytes-are t h = path-known t h λ p w e q.
     let (s, l, u) = formed p w in
-    rw q (every-append isByte (rootOf (p .root)) _ (root-small (p .root))
-    (every-append isByte (countBytes (length (p .parts))) _ (count-small (length (p .parts)) u) (segments-small (p .parts) s)))
+    rw (q, every-join, every-join)
+    (and-both (every isByte (rootOf (p .root))) _ (root-small (p .root))
+    (and-both (every isByte (countBytes (length (p .parts)))) _ (count-small (length (p .parts)) u) (segments-small (p .parts) s)))
 
 -- ── How many: of a path's text with r characters of root mark and n segments
 pub record Measured (t : List ℕ) (r n : ℕ) : Type 0 where

@@ -13,7 +13,7 @@ use lib.Seq.{take-at, drop-at, drop-drop, take-all, length-take-le}
 use borrow.Author.Tests.{eq-eqb, ne-eqb, lt-ltb, le-ltb, le-leb, lt-leb, ltb-false, eqb-true, not-false}
 use Rattle.octets.specs.Bytes.{leAt, laid, _>>=_}
 use Rattle.octets.specs.Sum.{byteSum}
-use Rattle.octets.specs.Tests.{true-test}
+use Rattle.octets.specs.Tests.{or-none, true-test}
 use Rattle.octets.specs.Filling.{Wrote, wrote-length, Writing, writing-start, lent, returned}
 use Rattle.octets.specs.Reading.{Digits}
 use Rattle.grammar.specs.declared.Place.the-variants.{InList}
@@ -70,10 +70,6 @@ module _ (t : List ℕ) where
         pub table-fine : s ≡ 0 → 0 ≡ tableNumber t
         unfolding tableNumber
         table-fine z = rw (le-ltb (length t) 36 l, eq-eqb (leAt 4 t 4) (length t) own, le-ltb 268435455 (length t) m, eq-eqb (byteSum t) 0 (sym b ∙ z)) refl
-
-or-none : (a b : Bool) → a || b ≡ false → (a ≡ false) × (b ≡ false)
-or-none true b e = absurd (true≢false e)
-or-none false b e = (refl, e)
 
 table-framed : (t : List ℕ) → tableNumber t ≡ 0 → Framed t
 unfolding tableNumber

@@ -1,10 +1,10 @@
 -- How much a table's bytes can hold: of terms that can be read, each takes a byte of its own at least, and a text has at most twice as many
 -- bytes as it takes in the table.
 -- Assumes nothing.
-use mathlib.Core.Path.{_≡_, refl, ap}
+use mathlib.Core.Path.{_≡_, ap}
 use mathlib.Core.Bool.{Bool, true, false, _||_, cond}
 use mathlib.Core.Option.{some}
-use mathlib.Core.List.{List, [], _∷_, _++_, append-assoc}
+use mathlib.Core.List.{List, [], _∷_, _++_}
 use Prim.Native.Nat.{ℕ, suc, _+_, _-_, _*_, _≤_}
 use native.Mathlib.Omega.{arith}
 use lib.Dec.{T, leb, leb→le, eqb→eq}
@@ -18,7 +18,7 @@ use Rattle.grammar.specs.declared.Text.the-variants.{Unused, PathText, SegmentT
 use Rattle.grammar.specs.declared.Row.{Row}
 use Rattle.grammar.specs.Kinds.{opcode, normalKinds, find, rowIn}
 use Rattle.grammar.specs.KindLaws.{everyRow, found-rule}
-use Rattle.grammar.specs.Forest.{Fields, Forest, nil, node, count, Term, flatten}
+use Rattle.grammar.specs.Forest.{Fields, Forest, nil, node, count, flatten}
 use Rattle.fields.specs.Fields.{textFits, inRange, textSpelled, spelled}
 use Rattle.fields.specs.Written.{textBytes, fieldBytes}
 use Rattle.fields.specs.WrittenLaws.{readableText, readable, normal-readable}
@@ -31,13 +31,9 @@ use Rattle.tree.specs.Read.{read, onto, Tree}
 use Rattle.tree.specs.Good.{treeBytes, Good}
 use Rattle.tree.specs.ExactLaws.{tree-forest, read-exact}
 use Rattle.normal.specs.File.{termTexts}
+use Rattle.normal.specs.SectionLaws.{texts-append}
 use Rattle.walk.specs.declared.Walk.{Walk}
 use Rattle.walk.specs.Walk.{tree, Walks, Spans}
-
-pub texts-append : (ts us : List Term) → termTexts (ts ++ us) ≡ termTexts ts ++ termTexts us
-unfolding termTexts
-texts-append [] us = refl
-texts-append (t ∷ ts) us = rw (texts-append ts us, append-assoc (t .fields .text) (termTexts ts) (termTexts us)) refl
 
 -- ── A text, by its form
 text-few : (y : Text) (kind : ℕ) (v : Fields) → T (readableText y) → T (textFits y kind (v .text) (v .a) (v .x)) → T (textSpelled y kind (v .text))

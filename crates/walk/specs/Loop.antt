@@ -19,10 +19,10 @@ use Rattle.grammar.specs.Forest.{Forest, nil, node, count, join, flatten}
 use Rattle.grammar.specs.ForestLaws.{join-nil, flatten-join}
 use Rattle.tree.specs.Read.{Tree, onto, times, list}
 use Rattle.normal.specs.File.{termTexts}
+use Rattle.normal.specs.SectionLaws.{texts-append}
 use Rattle.walk.specs.declared.Walk.{Walk}
 use Rattle.walk.specs.Spots.{Left, left-none, left-next}
 use Rattle.walk.specs.Walk.{tree, forest, Walks, Spans, several}
-use Rattle.walk.specs.Few.{texts-append}
 
 -- whether another is read: some are left, and a list is not at its end
 unfoldable pub goesOn : Bool → ℕ → ℕ → ℕ → Bool

@@ -3,7 +3,7 @@
 -- Document 01, "How strong the statements are" (Demand 3) and "Refusal numbers" (Reading).
 -- Assumes nothing.
 use mathlib.Core.Path.{_≡_, refl, sym, ap, _∙_}
-use mathlib.Core.Bool.{Bool, true, false, _||_, not, cond, true≢false}
+use mathlib.Core.Bool.{Bool, true, false, _||_, not, cond}
 use mathlib.Core.Option.{Option, none, some, Option·none-ne-some, Option·some-injective}
 use mathlib.Core.List.{List}
 use Prim.Native.Nat.{ℕ, _+_, _≤_, _<_}
@@ -13,7 +13,7 @@ use lib.ListN.{length, drop, length-drop}
 use borrow.Author.Tests.{eq-eqb, eqb-true, le-leb, le-ltb, ltb-false, not-false}
 use Rattle.octets.specs.Bytes.{every, isByte, leAt}
 use Rattle.octets.specs.Sum.{byteSum}
-use Rattle.octets.specs.Tests.{cond-case, cond-inv}
+use Rattle.octets.specs.Tests.{or-none, cond-case, cond-inv}
 use Rattle.grammar.specs.Forest.{Forest, flatten}
 use Rattle.tree.specs.Bytes.{bytes}
 use Rattle.tree.specs.Normal.{norm, normal, roomy}
@@ -175,10 +175,6 @@ module _ (a t : List ℕ) (g : Forest) (p : Plain a) (b : T (every isByte t)) (h
 -- the answers 0 and 14
 abbrev pub isRead : ℕ → Bool
 isRead n = eqb n 0 || eqb n 14
-
-or-none : (a b : Bool) → a || b ≡ false → (a ≡ false) × (b ≡ false)
-or-none true b e = absurd (true≢false e)
-or-none false b e = (refl, e)
 
 answer-framed : (a t out : List ℕ) → Plain a → T (isRead (readOf a t out .answer .number)) → Framed t × ((g : Forest) × (treeIn (listOf a) t ≡ some g))
 unfolding readOf readIn refusedBy

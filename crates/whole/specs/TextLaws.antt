@@ -15,7 +15,7 @@ use Rattle.grammar.specs.declared.Text.{Text}
 use Rattle.grammar.specs.declared.Text.the-variants.{Unused, PathText, SegmentText, Ascii, AnyBytes, EisaText, UuidText, DescriptorText}
 use Rattle.grammar.specs.declared.Row.{Row}
 use Rattle.grammar.specs.Kinds.{opcode, childPlace, rowOf, rowIn}
-use Rattle.grammar.specs.Forest.{Fields, Forest, nil, node, count, Term, flatten}
+use Rattle.grammar.specs.Forest.{Fields, Forest, nil, node, count, flatten}
 use Rattle.fields.specs.Fields.{numbersFit, textFits, inRange, textSpelled, spelled}
 use Rattle.fields.specs.Written.{textBytes, formBytes, fieldBytes}
 use Rattle.fields.specs.WrittenLaws.{readableText, readable, normal-readable}
@@ -24,6 +24,7 @@ use Rattle.tree.specs.Bytes.{before, behind, body, box, termBytes, bytes}
 use Rattle.tree.specs.Normal.{isNormal, normal}
 use Rattle.tree.specs.TableLaws.{normal-found, normal-row}
 use Rattle.normal.specs.File.{termTexts}
+use Rattle.normal.specs.SectionLaws.{texts-append}
 
 -- ── One text: of a form that can be read back
 text-half : (c : Text) (kind : ℕ) (v : Fields) → T (readableText c) → T (textFits c kind (v .text) (v .a) (v .x)) → T (textSpelled c kind (v .text))
@@ -67,12 +68,6 @@ term-half args p l k v n t m = normal-found k m λ r e.
     rw q (fields-half r v (normal-readable k e) (search (and-left, and-right) depth 10) (search (and-left, and-right) depth 10))
 
 -- ── All terms
-texts-append : (s t : List Term) → length (termTexts (s ++ t)) ≡ length (termTexts s) + length (termTexts t)
-unfolding termTexts
-texts-append [] t = omega arith
-texts-append (a ∷ s) t =
-    omega (arith, length-append (a .fields .text) (termTexts (s ++ t)), length-append (a .fields .text) (termTexts s), texts-append s t)
-
 pub texts-most : (args : Args) (place : ℕ → Place) (l j : ℕ) (f : Forest) → Fits args place l j f → T (normal f) → length (termTexts (flatten f)) ≤ 2 * length (bytes f)
 unfolding Fits normal flatten termTexts bytes
 texts-most args place l j nil h n = omega arith
@@ -84,4 +79,4 @@ texts-most args place l j (node k v c s) h n =
     let mc = texts-most args (childPlace (rowIn (rowOf k))) (l - 1) 0 c (h .1) u₂ in
     let ms = texts-most args place l (suc j) s (h .2) u₃ in
     let p = term-parts (rowIn (rowOf k)) v (count c) (bytes c) in
-    omega (arith, length-append (v .text) (termTexts (flatten c ++ flatten s)), texts-append (flatten c) (flatten s), length-append (termBytes (rowIn (rowOf k)) v (count c) (bytes c)) (bytes s))
+    rw (texts-append (flatten c) (flatten s)) (simp length-append (omega arith))
