@@ -4,6 +4,7 @@ pub mod Most
 pub mod WalkLaws
 pub mod Terms
 pub mod Sound
+pub mod Kept
 pub mod Answer
 pub mod LateLaws
 pub mod AcceptLaws

@@ -191,6 +191,9 @@ module _ (records pool : List ℕ) (l i : ℕ) where
   pub out-measured : length records / 24 ≤ i → Measured (term l (termsFrom records pool i)) records pool 0 0 false i
   out-measured h = let e = terms-none records pool i h in rw (e, term-nil) (nothing-measured (sym e))
 
+pub none-listed : (records pool : List ℕ) (f : List Term → Part) (n i : ℕ) → n ≡ 0 → Measured (list f n (termsFrom records pool i)) records pool 0 0 false i
+none-listed records pool f n i e = rw (list-none f n (termsFrom records pool i) e) (nothing-measured refl)
+
 -- ── The children's figures: so much is counted, and n children from `next` on make up the whole
 pub record Left (records pool : List ℕ) (f : List Term → Part) (whole : Part) (n size k : ℕ) (deep : Bool) (next : ℕ) : Type 0 where
   pub bytes : size + length (list f n (termsFrom records pool next) .bytes) ≡ length (whole .bytes)

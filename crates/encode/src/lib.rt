@@ -1,13 +1,15 @@
 // Encodes a term file: measures its terms, writes them behind the header, and seals the table.
 ghost use mathlib.Core.Path.{_≡_};
-ghost use Prim.Native.Nat.{_+_, _≤_};
+ghost use Prim.Native.Nat.{_+_, _-_, _≤_};
 ghost use lib.ListN.{length};
 ghost use Rattle.octets.specs.Filling.{Wrote};
+ghost use Rattle.grammar.specs.Kinds.{rowAt};
 ghost use Rattle.written.specs.Fine.{fieldsOf};
 ghost use Rattle.encode.specs.Walk.{isBuffer, recordsIn, deeper, list, term};
-ghost use Rattle.encode.specs.Terms.{bodyOf, takesOf, headOf, Ready};
+ghost use Rattle.encode.specs.Terms.{bodyOf, takesOf, headOf, isMeasured, Told, Framed, Ready};
 ghost use Rattle.encode.specs.WalkLaws.{termsFrom, Measured, Put, Room};
-ghost use Rattle.encode.specs.Sound.{Sound};
+ghost use Rattle.encode.specs.Sound.{Sound, Node, Parent};
+ghost use Rattle.encode.specs.Kept.{keptIn, keptOf, Kept};
 ghost use Rattle.sdt.specs.Table.{opened, sealed};
 ghost use Rattle.encode.specs.Encode.{encodeOf};
 ghost use Rattle.encode.specs.Answer.{Answered, whole, figuresNumber, walked};
@@ -70,27 +72,59 @@ fn is_deeper(levels: usize, kind: u64, deep: bool) -> bool
     deep
 }
 
-// The bytes of a term's body around children of so many bytes, and these.
-fn body_len(row: grammar::Row, r: term::Record, text: &[u8], size: u64) -> u64
-    requires { ⌜ Ready row (fieldsOf (now text) (r .a) (r .x)) size ⌝ }
-    ensures { λ n. ⌜ n ≡ bodyOf row (fieldsOf (now (text .entry)) (r .a) (r .x)) (r .kids) size ⌝ }
+// The bytes of a body of the kind at j around children of so many bytes, and these.
+fn body_len(j: usize, r: term::Record, text: &[u8], size: u64) -> u64
+    requires { ⌜ Ready (rowAt j) (fieldsOf (now text) (r .a) (r .x)) size ⌝ }
+    ensures { λ n. ⌜ n ≡ bodyOf (rowAt j) (fieldsOf (now (text .entry)) (r .a) (r .x)) (r .kids) size ⌝ }
 {
-    let head = frame::before_len(row, text, r.a, r.x, r.kids, size) as u64;
-    let tail = frame::behind_len(row, text, r.a, r.x) as u64;
-    head + size + tail
+    frame::around_len(j, text, r.a, r.x, r.kids, size) as u64 + size
 }
 
-fn term_len(row: grammar::Row, r: term::Record, text: &[u8], size: u64) -> u64
-    requires { ⌜ Ready row (fieldsOf (now text) (r .a) (r .x)) size ⌝ }
-    ensures { λ n. ⌜ n ≡ takesOf row (fieldsOf (now (text .entry)) (r .a) (r .x)) (r .kids) size ⌝ }
+fn term_len(j: usize, r: term::Record, text: &[u8], size: u64) -> u64
+    requires { ⌜ Ready (rowAt j) (fieldsOf (now text) (r .a) (r .x)) size ⌝ }
+    ensures { λ n. ⌜ n ≡ takesOf (rowAt j) (fieldsOf (now (text .entry)) (r .a) (r .x)) (r .kids) size ⌝ }
 {
-    let body = body_len(row, r, text, size);
-    frame::frame_len(row, body) as u64 + body
+    let body = body_len(j, r, text, size);
+    frame::frame_len(j, body) as u64 + body
 }
 
-fn size_of(records: &[u8], pool: &[u8], i: usize, levels: usize) -> Sized
-    requires { ⌜ Sound (now records) (now pool) × (levels ≤ 64) ⌝ }
-    ensures { λ s. ⌜ Measured (term levels (termsFrom (now (records .entry)) (now (pool .entry)) i)) (now (records .entry)) (now (pool .entry)) (s .size) (s .records) (s .deep) (s .next) ⌝ }
+// ── Sizes that were measured are kept, each with its record and level, so that what stands in several boxes is not measured for each
+
+// Keeps the size of the children of record i. Its place may have had another's, which is lost.
+fn keep(kept: &mut [u64], i: usize, levels: usize, size: u64)
+    requires { ⌜ (i ≤ 65536) × (levels ≤ 64) ⌝ }
+    ensures { λ r. ⌜ now (kept .exit) ≡ keptIn (now (kept .entry)) i levels size ⌝ }
+{
+    let slot = i % 4096;
+    let key = levels as u64 + 1 + 128 * i as u64;
+    if slot < kept.len() {
+        if size < 0x100000000 {
+            kept[slot] = size + 0x100000000 * key;
+        }
+    }
+}
+
+// The size that is kept for the children of record i; 2^32 is none.
+fn kept_at(kept: &[u64], i: usize, levels: usize) -> u64
+    requires { ⌜ (i ≤ 65536) × (levels ≤ 64) ⌝ }
+    ensures { λ r. ⌜ r ≡ keptOf (now (kept .entry)) i levels ⌝ }
+{
+    let slot = i % 4096;
+    let key = levels as u64 + 1 + 128 * i as u64;
+    if slot < kept.len() {
+        let e = kept[slot];
+        if e / 0x100000000 == key {
+            return e % 0x100000000;
+        }
+    }
+    0x100000000
+}
+
+// ── Terms are measured: a term, its children one level down, one after the other
+
+fn size_of(records: &[u8], pool: &[u8], i: usize, levels: usize, kept: &mut [u64]) -> Sized
+    requires { ⌜ Sound (now records) (now pool) × (levels ≤ 64) × Kept (now records) (now pool) (now kept) ⌝ }
+    ensures { λ s. ⌜ Measured (term levels (termsFrom (now (records .entry)) (now (pool .entry)) i)) (now (records .entry)) (now (pool .entry)) (s .size) (s .records) (s .deep) (s .next) × Kept (now (records .entry)) (now (pool .entry)) (now (kept .exit)) ⌝ }
 {
     if levels == 0 {
         return Sized {
@@ -109,20 +143,38 @@ fn size_of(records: &[u8], pool: &[u8], i: usize, levels: usize) -> Sized
         };
     }
     let r = term::record_at(records, i);
-    let row = grammar::row_at(grammar::position_of(r.kind));
+    let j = grammar::position_of(r.kind);
     let text = term::text_at(pool, r.start, r.len);
-    let kids = sizes_of(records, pool, r.kids, i + 1, levels - 1);
+    let kids = kids_of(records, pool, r.kids, i, levels, kept);
     Sized {
-        size: term_len(row, r, text, kids.size),
+        size: term_len(j, r, text, kids.size),
         records: records_in(r.kind, kids.records),
         deep: is_deeper(levels - 1, r.kind, kids.deep),
         next: kids.next,
     }
 }
 
-pub fn sizes_of(records: &[u8], pool: &[u8], n: u64, i: usize, levels: usize) -> Sized
-    requires { ⌜ Sound (now records) (now pool) × (levels ≤ 64) ⌝ }
-    ensures { λ s. ⌜ Measured (list (term levels) n (termsFrom (now (records .entry)) (now (pool .entry)) i)) (now (records .entry)) (now (pool .entry)) (s .size) (s .records) (s .deep) (s .next) ⌝ }
+// The n children of record i.
+fn kids_of(records: &[u8], pool: &[u8], n: u64, i: usize, levels: usize, kept: &mut [u64]) -> Sized
+    requires { ⌜ Sound (now records) (now pool) × Parent (now records) levels i n × Kept (now records) (now pool) (now kept) ⌝ }
+    ensures { λ s. ⌜ Measured (list (term (levels - 1)) n (termsFrom (now (records .entry)) (now (pool .entry)) (i + 1))) (now (records .entry)) (now (pool .entry)) (s .size) (s .records) (s .deep) (s .next) × Kept (now (records .entry)) (now (pool .entry)) (now (kept .exit)) ⌝ }
+{
+    if n == 0 {
+        return Sized {
+            size: 0,
+            records: 0,
+            deep: false,
+            next: i + 1,
+        };
+    }
+    let s = sizes_in(records, pool, n, i + 1, levels - 1, kept);
+    keep(kept, i, levels, s.size);
+    s
+}
+
+fn sizes_in(records: &[u8], pool: &[u8], n: u64, i: usize, levels: usize, kept: &mut [u64]) -> Sized
+    requires { ⌜ Sound (now records) (now pool) × (levels ≤ 64) × Kept (now records) (now pool) (now kept) ⌝ }
+    ensures { λ s. ⌜ Measured (list (term levels) n (termsFrom (now (records .entry)) (now (pool .entry)) i)) (now (records .entry)) (now (pool .entry)) (s .size) (s .records) (s .deep) (s .next) × Kept (now (records .entry)) (now (pool .entry)) (now (kept .exit)) ⌝ }
 {
     let mut left = n;
     let mut size = 0;
@@ -130,7 +182,7 @@ pub fn sizes_of(records: &[u8], pool: &[u8], n: u64, i: usize, levels: usize) ->
     let mut deep = false;
     let mut next = i;
     while 0 < left {
-        let s = size_of(records, pool, next, levels);
+        let s = size_of(records, pool, next, levels, kept);
         size = size + s.size;
         count = count + s.records;
         deep = octets::either(deep, s.deep);
@@ -145,24 +197,95 @@ pub fn sizes_of(records: &[u8], pool: &[u8], n: u64, i: usize, levels: usize) ->
     }
 }
 
+// n terms from record i on, for whoever measures once.
+pub fn sizes_of(records: &[u8], pool: &[u8], n: u64, i: usize, levels: usize) -> Sized
+    requires { ⌜ Sound (now records) (now pool) × (levels ≤ 64) ⌝ }
+    ensures { λ s. ⌜ Measured (list (term levels) n (termsFrom (now (records .entry)) (now (pool .entry)) i)) (now (records .entry)) (now (pool .entry)) (s .size) (s .records) (s .deep) (s .next) ⌝ }
+{
+    let mut kept = [0u64; 1];
+    sizes_in(records, pool, n, i, levels, &mut kept)
+}
+
 // ── Writing
 
-// A term's frame, and what is before its children.
-fn put_head(row: grammar::Row, r: term::Record, text: &[u8], size: u64, out: &mut [u8]) -> usize
-    requires { ⌜ Ready row (fieldsOf (now text) (r .a) (r .x)) size × (length (headOf row (fieldsOf (now text) (r .a) (r .x)) (r .kids) size) ≤ length (now out)) × (bodyOf row (fieldsOf (now text) (r .a) (r .x)) (r .kids) size ≤ 268435455) ⌝ }
-    ensures { λ n. ⌜ Wrote (headOf row (fieldsOf (now (text .entry)) (r .a) (r .x)) (r .kids) size) (now (out .entry)) (now (out .exit)) n ⌝ }
+// The size of its body, where it has a box.
+fn boxed_len(j: usize, r: term::Record, text: &[u8], size: u64) -> u64
+    requires { ⌜ Ready (rowAt j) (fieldsOf (now text) (r .a) (r .x)) size ⌝ }
+    ensures { λ b. ⌜ Framed (rowAt j) (bodyOf (rowAt j) (fieldsOf (now (text .entry)) (r .a) (r .x)) (r .kids) size) b ⌝ }
 {
-    let body = body_len(row, r, text, size);
+    if grammar::boxed_at(j) {
+        return body_len(j, r, text, size);
+    }
+    0
+}
+
+// A term's frame, and what is before its children.
+fn put_head(j: usize, r: term::Record, text: &[u8], size: u64, out: &mut [u8]) -> usize
+    requires { ⌜ Ready (rowAt j) (fieldsOf (now text) (r .a) (r .x)) size × (length (headOf (rowAt j) (fieldsOf (now text) (r .a) (r .x)) (r .kids) size) ≤ length (now out)) × (bodyOf (rowAt j) (fieldsOf (now text) (r .a) (r .x)) (r .kids) size ≤ 268435455) ⌝ }
+    ensures { λ n. ⌜ Wrote (headOf (rowAt j) (fieldsOf (now (text .entry)) (r .a) (r .x)) (r .kids) size) (now (out .entry)) (now (out .exit)) n ⌝ }
+{
+    let body = boxed_len(j, r, text, size);
     let mut at = 0;
-    at = at + frame::put_frame(row, body, &mut out[at..]);
-    at = at + frame::put_before(row, text, r.a, r.x, r.kids, size, &mut out[at..]);
+    at = at + frame::put_frame(j, body, &mut out[at..]);
+    at = at + frame::put_before(j, text, r.a, r.x, r.kids, size, &mut out[at..]);
     at
 }
 
-// A term: its frame, what is before its children, the children in the part behind, what is behind them.
-fn write_term(records: &[u8], pool: &[u8], i: usize, levels: usize, out: &mut [u8]) -> Done
-    requires { ⌜ Sound (now records) (now pool) × (levels ≤ 64) × Room (term levels (termsFrom (now records) (now pool) i)) (now out) ⌝ }
-    ensures { λ d. ⌜ Put (term levels (termsFrom (now (records .entry)) (now (pool .entry)) i)) (now (records .entry)) (now (pool .entry)) (now (out .entry)) (now (out .exit)) (d .size) (d .next) ⌝ }
+fn is_measured(rest: grammar::Rest) -> bool
+    ensures { λ r. ⌜ r ≡ isMeasured rest ⌝ }
+{
+    match rest {
+        grammar::Rest::Nothing => false,
+        grammar::Rest::Arity => false,
+        grammar::Rest::Listed => false,
+        grammar::Rest::Counted => false,
+        grammar::Rest::Measured => true,
+    }
+}
+
+// The size of the n children of record i: kept, or measured now.
+fn kids_size(records: &[u8], pool: &[u8], n: u64, i: usize, levels: usize, kept: &mut [u64]) -> u64
+    requires { ⌜ Sound (now records) (now pool) × Parent (now records) levels i n × Kept (now records) (now pool) (now kept) ⌝ }
+    ensures { λ s. ⌜ (s ≡ length (list (term (levels - 1)) n (termsFrom (now (records .entry)) (now (pool .entry)) (i + 1)) .bytes)) × Kept (now (records .entry)) (now (pool .entry)) (now (kept .exit)) ⌝ }
+{
+    let size = kept_at(kept, i, levels);
+    if size < 0x100000000 {
+        return size;
+    }
+    let s = kids_of(records, pool, n, i, levels, kept);
+    s.size
+}
+
+// The same where the term's box or its template asks for it.
+fn asked_size(
+    records: &[u8],
+    pool: &[u8],
+    j: usize,
+    n: u64,
+    i: usize,
+    levels: usize,
+    kept: &mut [u64],
+) -> u64
+    requires { ⌜ Sound (now records) (now pool) × Parent (now records) levels i n × Kept (now records) (now pool) (now kept) ⌝ }
+    ensures { λ s. ⌜ Told (rowAt j) (list (term (levels - 1)) n (termsFrom (now (records .entry)) (now (pool .entry)) (i + 1)) .bytes) s × Kept (now (records .entry)) (now (pool .entry)) (now (kept .exit)) ⌝ }
+{
+    let rest = grammar::rest_at(j);
+    if octets::either(grammar::boxed_at(j), is_measured(rest)) {
+        return kids_size(records, pool, n, i, levels, kept);
+    }
+    0
+}
+
+fn write_term(
+    records: &[u8],
+    pool: &[u8],
+    i: usize,
+    levels: usize,
+    kept: &mut [u64],
+    out: &mut [u8],
+) -> Done
+    requires { ⌜ Sound (now records) (now pool) × (levels ≤ 64) × Kept (now records) (now pool) (now kept) × Room (term levels (termsFrom (now records) (now pool) i)) (now out) ⌝ }
+    ensures { λ d. ⌜ Put (term levels (termsFrom (now (records .entry)) (now (pool .entry)) i)) (now (records .entry)) (now (pool .entry)) (now (out .entry)) (now (out .exit)) (d .size) (d .next) × Kept (now (records .entry)) (now (pool .entry)) (now (kept .exit)) ⌝ }
 {
     if levels == 0 {
         return Done { size: 0, next: i };
@@ -171,18 +294,84 @@ fn write_term(records: &[u8], pool: &[u8], i: usize, levels: usize, out: &mut [u
         return Done { size: 0, next: i };
     }
     let r = term::record_at(records, i);
-    let row = grammar::row_at(grammar::position_of(r.kind));
+    write_node(records, pool, r, i, levels, kept, out)
+}
+
+// A term: its frame, what is before its children, the children in the part behind, what is behind them.
+fn write_node(
+    records: &[u8],
+    pool: &[u8],
+    r: term::Record,
+    i: usize,
+    levels: usize,
+    kept: &mut [u64],
+    out: &mut [u8],
+) -> Done
+    requires { ⌜ Node (now records) (now pool) levels i r × Kept (now records) (now pool) (now kept) × Room (term levels (termsFrom (now records) (now pool) i)) (now out) ⌝ }
+    ensures { λ d. ⌜ Put (term levels (termsFrom (now (records .entry)) (now (pool .entry)) i)) (now (records .entry)) (now (pool .entry)) (now (out .entry)) (now (out .exit)) (d .size) (d .next) × Kept (now (records .entry)) (now (pool .entry)) (now (kept .exit)) ⌝ }
+{
+    let j = grammar::position_of(r.kind);
     let text = term::text_at(pool, r.start, r.len);
-    let kids = sizes_of(records, pool, r.kids, i + 1, levels - 1);
+    let size = asked_size(records, pool, j, r.kids, i, levels, kept);
     let mut at = 0;
-    at = at + put_head(row, r, text, kids.size, &mut out[at..]);
-    let done = write_list(records, pool, r.kids, i + 1, levels - 1, &mut out[at..]);
+    at = at + put_head(j, r, text, size, &mut out[at..]);
+    let done = write_kids(
+        records,
+        pool,
+        r.kids,
+        i + 1,
+        levels - 1,
+        kept,
+        &mut out[at..],
+    );
     at = at + done.size;
-    at = at + frame::put_behind(row, text, r.a, r.x, &mut out[at..]);
+    at = at + frame::put_behind(j, text, r.a, r.x, &mut out[at..]);
     Done {
         size: at,
         next: done.next,
     }
+}
+
+fn write_kids(
+    records: &[u8],
+    pool: &[u8],
+    n: u64,
+    i: usize,
+    levels: usize,
+    kept: &mut [u64],
+    out: &mut [u8],
+) -> Done
+    requires { ⌜ Sound (now records) (now pool) × (levels ≤ 64) × Kept (now records) (now pool) (now kept) × Room (list (term levels) n (termsFrom (now records) (now pool) i)) (now out) ⌝ }
+    ensures { λ d. ⌜ Put (list (term levels) n (termsFrom (now (records .entry)) (now (pool .entry)) i)) (now (records .entry)) (now (pool .entry)) (now (out .entry)) (now (out .exit)) (d .size) (d .next) × Kept (now (records .entry)) (now (pool .entry)) (now (kept .exit)) ⌝ }
+{
+    if n == 0 {
+        return Done { size: 0, next: i };
+    }
+    write_in(records, pool, n, i, levels, kept, out)
+}
+
+fn write_in(
+    records: &[u8],
+    pool: &[u8],
+    n: u64,
+    i: usize,
+    levels: usize,
+    kept: &mut [u64],
+    out: &mut [u8],
+) -> Done
+    requires { ⌜ Sound (now records) (now pool) × (levels ≤ 64) × Kept (now records) (now pool) (now kept) × Room (list (term levels) n (termsFrom (now records) (now pool) i)) (now out) ⌝ }
+    ensures { λ d. ⌜ Put (list (term levels) n (termsFrom (now (records .entry)) (now (pool .entry)) i)) (now (records .entry)) (now (pool .entry)) (now (out .entry)) (now (out .exit)) (d .size) (d .next) × Kept (now (records .entry)) (now (pool .entry)) (now (kept .exit)) ⌝ }
+{
+    let mut left = n;
+    let mut at = 0;
+    let mut next = i;
+    while 0 < left {
+        let done = write_term(records, pool, next, levels, kept, &mut out[at..]);
+        at = at + done.size;
+        next = done.next;
+        left = left - 1;
+    }
+    Done { size: at, next }
 }
 
 pub fn write_list(
@@ -196,16 +385,8 @@ pub fn write_list(
     requires { ⌜ Sound (now records) (now pool) × (levels ≤ 64) × Room (list (term levels) n (termsFrom (now records) (now pool) i)) (now out) ⌝ }
     ensures { λ d. ⌜ Put (list (term levels) n (termsFrom (now (records .entry)) (now (pool .entry)) i)) (now (records .entry)) (now (pool .entry)) (now (out .entry)) (now (out .exit)) (d .size) (d .next) ⌝ }
 {
-    let mut left = n;
-    let mut at = 0;
-    let mut next = i;
-    while 0 < left {
-        let done = write_term(records, pool, next, levels, &mut out[at..]);
-        at = at + done.size;
-        next = done.next;
-        left = left - 1;
-    }
-    Done { size: at, next }
+    let mut kept = [0u64; 1];
+    write_in(records, pool, n, i, levels, &mut kept, out)
 }
 
 // ── The table
@@ -225,23 +406,35 @@ pub fn late_number(records: u64, deep: bool, size: u64) -> u32
 }
 
 // The header, with no length and no checksum yet, and the terms.
-fn put_opened(identity: &[u8], records: &[u8], pool: &[u8], out: &mut [u8]) -> usize
-    requires { ⌜ Sound (now records) (now pool) × TableRoom (now identity) (whole (now records) (now pool)) (now out) ⌝ }
+fn put_opened(
+    identity: &[u8],
+    records: &[u8],
+    pool: &[u8],
+    kept: &mut [u64],
+    out: &mut [u8],
+) -> usize
+    requires { ⌜ Sound (now records) (now pool) × Kept (now records) (now pool) (now kept) × TableRoom (now identity) (whole (now records) (now pool)) (now out) ⌝ }
     ensures { λ n. ⌜ Wrote (opened (now (identity .entry)) (whole (now (records .entry)) (now (pool .entry)) .bytes)) (now (out .entry)) (now (out .exit)) n ⌝ }
 {
     let n = (records.len() / 24) as u64;
     let mut at = 0;
     at = at + sdt::put_header(identity, &mut out[at..]);
-    let done = write_list(records, pool, n, 0, 64, &mut out[at..]);
+    let done = write_in(records, pool, n, 0, 64, kept, &mut out[at..]);
     at = at + done.size;
     at
 }
 
-fn put_table(identity: &[u8], records: &[u8], pool: &[u8], out: &mut [u8]) -> usize
-    requires { ⌜ Sound (now records) (now pool) × TableRoom (now identity) (whole (now records) (now pool)) (now out) ⌝ }
+fn put_table(
+    identity: &[u8],
+    records: &[u8],
+    pool: &[u8],
+    kept: &mut [u64],
+    out: &mut [u8],
+) -> usize
+    requires { ⌜ Sound (now records) (now pool) × Kept (now records) (now pool) (now kept) × TableRoom (now identity) (whole (now records) (now pool)) (now out) ⌝ }
     ensures { λ n. ⌜ Wrote (sealed (opened (now (identity .entry)) (whole (now (records .entry)) (now (pool .entry)) .bytes))) (now (out .entry)) (now (out .exit)) n ⌝ }
 {
-    let total = put_opened(identity, records, pool, out);
+    let total = put_opened(identity, records, pool, kept, out);
     sdt::update_checksum(&mut out[0..total]);
     total
 }
@@ -252,7 +445,8 @@ fn encode_sections(identity: &[u8], records: &[u8], pool: &[u8], out: &mut [u8])
     ensures { λ r. ⌜ Answered r (now (out .exit)) (walked (sealed (opened (now (identity .entry)) (whole (now (records .entry)) (now (pool .entry)) .bytes))) (whole (now (records .entry)) (now (pool .entry))) (now (out .entry))) ⌝ }
 {
     let n = (records.len() / 24) as u64;
-    let s = sizes_of(records, pool, n, 0, 64);
+    let mut kept = [0u64; 4096];
+    let s = sizes_in(records, pool, n, 0, 64, &mut kept);
     let number = late_number(s.records, s.deep, s.size);
     if number != 0 {
         return Answer {
@@ -268,7 +462,7 @@ fn encode_sections(identity: &[u8], records: &[u8], pool: &[u8], out: &mut [u8])
             length: 0,
         };
     }
-    let total = put_table(identity, records, pool, out);
+    let total = put_table(identity, records, pool, &mut kept, out);
     Answer {
         number: 0,
         index: 0,

@@ -16,7 +16,7 @@ use Rattle.grammar.specs.declared.Row.{Row}
 use Rattle.grammar.specs.Kinds.{opcode}
 use Rattle.grammar.specs.Forest.{Fields}
 use Rattle.fields.specs.Written.{fieldBytes}
-use Rattle.tree.specs.Bytes.{front, before, behind, body, box, termBytes}
+use Rattle.tree.specs.Bytes.{front, back, before, behind, body, box, termBytes}
 
 -- the length of a body of m bytes, where it has one
 unfoldable pub lengthOf : Bool → ℕ → List ℕ
@@ -37,6 +37,10 @@ frontOf Measured n m = integer (m + 2)
 unfoldable pub beforeOf : Row → Fields → ℕ → ℕ → List ℕ
 beforeOf r v n m = cond (r .last) (frontOf (r .rest) n m) (fieldBytes r v)
 
+-- the bytes of both sides beside the fields, which stand on one of them
+unfoldable pub besideOf : Bool → Rest → ℕ → ℕ → ℕ
+besideOf b f n m = cond b (length (frontOf f n m) + length (back f)) 0
+
 -- ── The term is these, around its children
 front-of : (f : Rest) (n : ℕ) (bs : List ℕ) → front f n bs ≡ frontOf f n (length bs)
 unfolding front frontOf
@@ -53,7 +57,7 @@ module _ (r : Row) (v : Fields) (n : ℕ) (bs : List ℕ) where
 
   -- the bytes of the body
   unfoldable pub bodySize : ℕ
-  bodySize = length (beforeOf r v n (length bs)) + length bs + length (behind r v)
+  bodySize = length (beforeOf r v n (length bs)) + length (behind r v) + length bs
 
   body-size : length (body r v n bs) ≡ bodySize
   unfolding body bodySize
@@ -76,7 +80,7 @@ module _ (r : Row) (v : Fields) (n : ℕ) (bs : List ℕ) where
   unfolding termBytes frameOf
   term-length = rw (framed (r .boxed)) (simp length-append (omega (arith, body-size)))
 
--- the frame's two parts
-pub frame-parts : (r : Row) (m : ℕ) → Parts (frameOf r m) (le (r .ops) (r .op) ∷ lengthOf (r .boxed) m ∷ [])
+-- the frame's two parts, from columns that were looked up one by one
+pub frame-parts : (r : Row) (m : ℕ) {k o : ℕ} {b : Bool} → k ≡ r .ops → o ≡ r .op → b ≡ r .boxed → Parts (frameOf r m) (le k o ∷ lengthOf b m ∷ [])
 unfolding frameOf opcode flatten
-frame-parts r m = record { is = simp append-nil }
+frame-parts r m e f g = record { is = rw (e, f, g) (simp append-nil) }

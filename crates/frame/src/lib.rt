@@ -1,11 +1,12 @@
-// What stands around a term's children: its frame, and in its body what is before them and what is behind.
+// What stands around a term's children, of the kind at j in the table: its frame, and in its body what is before them and what is behind.
 ghost use mathlib.Core.Path.{_≡_};
-ghost use Prim.Native.Nat.{_≤_};
+ghost use Prim.Native.Nat.{_+_, _≤_};
 ghost use lib.ListN.{length};
 ghost use Rattle.octets.specs.Filling.{Wrote};
+ghost use Rattle.grammar.specs.Kinds.{rowAt};
 ghost use Rattle.written.specs.Fine.{Fine, fieldsOf};
 ghost use Rattle.tree.specs.Bytes.{back, behind};
-ghost use Rattle.frame.specs.Frame.{lengthOf, frameOf, frontOf, beforeOf};
+ghost use Rattle.frame.specs.Frame.{lengthOf, frameOf, frontOf, beforeOf, besideOf};
 
 // ── The frame: opcode, and the PkgLength of the body
 
@@ -29,20 +30,23 @@ fn put_length(boxed: bool, body: u64, out: &mut [u8]) -> usize
 }
 
 // The bytes before a body of so many bytes.
-pub fn frame_len(row: grammar::Row, body: u64) -> usize
-    requires { ⌜ row .ops ≤ 2 ⌝ }
-    ensures { λ r. ⌜ r ≡ length (frameOf row body) ⌝ }
+pub fn frame_len(j: usize, body: u64) -> usize
+    requires { ⌜ rowAt j .ops ≤ 2 ⌝ }
+    ensures { λ r. ⌜ r ≡ length (frameOf (rowAt j) body) ⌝ }
 {
-    row.ops as usize + length_len(row.boxed, body)
+    grammar::ops_at(j) as usize + length_len(grammar::boxed_at(j), body)
 }
 
-pub fn put_frame(row: grammar::Row, body: u64, out: &mut [u8]) -> usize
-    requires { ⌜ (row .ops ≤ 2) × (length (frameOf row body) ≤ length (now out)) × (body ≤ 268435455) ⌝ }
-    ensures { λ r. ⌜ Wrote (frameOf row body) (now (out .entry)) (now (out .exit)) r ⌝ }
+pub fn put_frame(j: usize, body: u64, out: &mut [u8]) -> usize
+    requires { ⌜ (rowAt j .ops ≤ 2) × (length (frameOf (rowAt j) body) ≤ length (now out)) × (body ≤ 268435455) ⌝ }
+    ensures { λ r. ⌜ Wrote (frameOf (rowAt j) body) (now (out .entry)) (now (out .exit)) r ⌝ }
 {
+    let ops = grammar::ops_at(j) as usize;
+    let op = grammar::op_at(j);
+    let boxed = grammar::boxed_at(j);
     let mut at = 0;
-    at = at + octets::put_le(row.ops as usize, row.op, &mut out[at..]);
-    at = at + put_length(row.boxed, body, &mut out[at..]);
+    at = at + octets::put_le(ops, op, &mut out[at..]);
+    at = at + put_length(boxed, body, &mut out[at..]);
     at
 }
 
@@ -101,55 +105,45 @@ fn put_back(rest: grammar::Rest, out: &mut [u8]) -> usize
 
 // ── What stands before n children of so many bytes, and what stands behind them: the fields are on one side of them
 
-pub fn before_len(row: grammar::Row, t: &[u8], a: u64, x: u64, n: u64, size: u64) -> usize
-    requires { ⌜ Fine row (fieldsOf (now t) a x) × (size ≤ 1152921504606846976) ⌝ }
-    ensures { λ r. ⌜ r ≡ length (beforeOf row (fieldsOf (now (t .entry)) a x) n size) ⌝ }
+// The bytes of both, beside the fields.
+fn beside_len(last: bool, rest: grammar::Rest, n: u64, size: u64) -> usize
+    requires { ⌜ size ≤ 1152921504606846976 ⌝ }
+    ensures { λ r. ⌜ r ≡ besideOf «last» rest n size ⌝ }
 {
-    if row.last {
-        let rest = row.rest;
-        return front_len(rest, n, size);
-    }
-    written::field_len(row, t, a, x)
-}
-
-pub fn put_before(
-    row: grammar::Row,
-    t: &[u8],
-    a: u64,
-    x: u64,
-    n: u64,
-    size: u64,
-    out: &mut [u8],
-) -> usize
-    requires { ⌜ Fine row (fieldsOf (now t) a x) × (size ≤ 1152921504606846976) × (length (beforeOf row (fieldsOf (now t) a x) n size) ≤ length (now out)) ⌝ }
-    ensures { λ r. ⌜ Wrote (beforeOf row (fieldsOf (now (t .entry)) a x) n size) (now (out .entry)) (now (out .exit)) r ⌝ }
-{
-    if row.last {
-        let rest = row.rest;
-        return put_front(rest, n, size, out);
-    }
-    written::put_fields(row, t, a, x, out)
-}
-
-pub fn behind_len(row: grammar::Row, t: &[u8], a: u64, x: u64) -> usize
-    requires { ⌜ Fine row (fieldsOf (now t) a x) ⌝ }
-    ensures { λ r. ⌜ r ≡ length (behind row (fieldsOf (now (t .entry)) a x)) ⌝ }
-{
-    if row.last {
-        let rest = row.rest;
-        return written::field_len(row, t, a, x) + back_len(rest);
+    if last {
+        return front_len(rest, n, size) + back_len(rest);
     }
     0
 }
 
-pub fn put_behind(row: grammar::Row, t: &[u8], a: u64, x: u64, out: &mut [u8]) -> usize
-    requires { ⌜ Fine row (fieldsOf (now t) a x) × (length (behind row (fieldsOf (now t) a x)) ≤ length (now out)) ⌝ }
-    ensures { λ r. ⌜ Wrote (behind row (fieldsOf (now (t .entry)) a x)) (now (out .entry)) (now (out .exit)) r ⌝ }
+// The bytes of both.
+pub fn around_len(j: usize, t: &[u8], a: u64, x: u64, n: u64, size: u64) -> usize
+    requires { ⌜ Fine (rowAt j) (fieldsOf (now t) a x) × (size ≤ 1152921504606846976) ⌝ }
+    ensures { λ r. ⌜ r ≡ length (beforeOf (rowAt j) (fieldsOf (now (t .entry)) a x) n size) + length (behind (rowAt j) (fieldsOf (now (t .entry)) a x)) ⌝ }
+{
+    let rest = grammar::rest_at(j);
+    written::field_len(j, t, a, x) + beside_len(grammar::last_at(j), rest, n, size)
+}
+
+pub fn put_before(j: usize, t: &[u8], a: u64, x: u64, n: u64, size: u64, out: &mut [u8]) -> usize
+    requires { ⌜ Fine (rowAt j) (fieldsOf (now t) a x) × (size ≤ 1152921504606846976) × (length (beforeOf (rowAt j) (fieldsOf (now t) a x) n size) ≤ length (now out)) ⌝ }
+    ensures { λ r. ⌜ Wrote (beforeOf (rowAt j) (fieldsOf (now (t .entry)) a x) n size) (now (out .entry)) (now (out .exit)) r ⌝ }
+{
+    if grammar::last_at(j) {
+        let rest = grammar::rest_at(j);
+        return put_front(rest, n, size, out);
+    }
+    written::put_fields(j, t, a, x, out)
+}
+
+pub fn put_behind(j: usize, t: &[u8], a: u64, x: u64, out: &mut [u8]) -> usize
+    requires { ⌜ Fine (rowAt j) (fieldsOf (now t) a x) × (length (behind (rowAt j) (fieldsOf (now t) a x)) ≤ length (now out)) ⌝ }
+    ensures { λ r. ⌜ Wrote (behind (rowAt j) (fieldsOf (now (t .entry)) a x)) (now (out .entry)) (now (out .exit)) r ⌝ }
 {
     let mut at = 0;
-    if row.last {
-        let rest = row.rest;
-        at = at + written::put_fields(row, t, a, x, &mut out[at..]);
+    if grammar::last_at(j) {
+        let rest = grammar::rest_at(j);
+        at = at + written::put_fields(j, t, a, x, &mut out[at..]);
         at = at + put_back(rest, &mut out[at..]);
     }
     at

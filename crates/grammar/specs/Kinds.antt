@@ -6,6 +6,7 @@ use mathlib.Core.Option.{Option, none, some}
 use mathlib.Core.List.{List, [], _∷_, _++_, map}
 use Prim.Native.Nat.{ℕ, _+_, _-_, _*_, _/_, _%_, _^_}
 use lib.Dec.{eqb, ltb, leb}
+use lib.ListN.{getD}
 use Rattle.octets.specs.Bytes.{le}
 use Rattle.grammar.specs.declared.Place.{Place}
 use Rattle.grammar.specs.declared.Place.the-variants.{InList, Operand, Datum, Element, FieldEntry, Descriptor}
@@ -194,3 +195,7 @@ noRow = row 0 0 0 false Unused noNumbers 0 0 false 0 InList Nothing InList Lists
 unfoldable pub rowIn : Option Row → Row
 rowIn none = noRow
 rowIn (some r) = r
+
+-- the row at a place of the table
+abbrev pub rowAt : ℕ → Row
+rowAt j = getD kinds j noRow

@@ -1,7 +1,8 @@
--- How the code holds the rows: three numbers a row, whose digits are its columns. PackedLaws ties the code's numbers to the table of kinds.
--- Assumes nothing.
+-- How the code holds the rows: a number a row, whose digits are its columns, the last of which names two numbers more. PackedLaws ties
+-- the code's numbers to the table of kinds. Assumes nothing.
 use mathlib.Core.Bool.{cond}
-use Prim.Native.Nat.{ℕ, _/_, _%_, _^_}
+use mathlib.Core.List.{List, [], _∷_}
+use Prim.Native.Nat.{ℕ, suc, _/_, _%_, _^_}
 use lib.Dec.{eqb}
 use Rattle.grammar.specs.declared.Place.{Place}
 use Rattle.grammar.specs.declared.Place.the-variants.{InList, Operand, Datum, Element, FieldEntry, Descriptor}
@@ -31,126 +32,42 @@ restOf c = cond (eqb c 1) Arity (cond (eqb c 2) Listed (cond (eqb c 3) Counted (
 unfoldable pub numbersOf : ℕ → ℕ → ℕ → Numbers
 numbersOf c width base = cond (eqb c 1) (Swapped width) (cond (eqb c 2) FieldFlags (cond (eqb c 3) IntegerX (cond (eqb c 4) LengthX (Digits width base))))
 
--- the columns of a row: kind, opcode, whether boxed, whether fields are last, text, children and places; numbers and the limit of a; the limit of x
-unfoldable pub unpack : ℕ → ℕ → ℕ → Row
-unpack w v x =
+-- the number of which a list says that it stands at j, where the list begins at i; 0 is none
+unfoldable pub entry : List ℕ → ℕ → ℕ → ℕ
+entry [] i j = 0
+entry (w ∷ ws) i j = cond (eqb j i) w (entry ws (suc i) j)
+
+-- the rows, in the order of the table of kinds
+unfoldable pub words : List ℕ
+words =
+    0x2281000210008 ∷ 0x11400410010 ∷ 0x116096E5B82 ∷ 0x40011400510014 ∷ 0x800116116E5B84 ∷ 0xC41116056E5B81
+    ∷ 0x1014412016E5B80 ∷ 0x1410410056E5B01 ∷ 0x18904108D6E5B23 ∷ 0x104109D6E5B27 ∷ 0x164184D6E5B13 ∷ 0x144180229008A
+    ∷ 0x14418023D008F ∷ 0x2504028100A0 ∷ 0x2504028900A2 ∷ 0x504028500A1 ∷ 0x12400029100A4 ∷ 0x1440002190086
+    ∷ 0x9440001C10070 ∷ 0x92400020D0083 ∷ 0x92400021D0087 ∷ 0x924000239008E ∷ 0x94400024D0093 ∷ 0x9440002510094
+    ∷ 0x9440002550095 ∷ 0x944024E4A9293 ∷ 0x94402524A9294 ∷ 0x94402564A9295 ∷ 0x9440002590096 ∷ 0x9440002650099
+    ∷ 0x9640001C90072 ∷ 0x9640001CD0073 ∷ 0x9640001D10074 ∷ 0x9640001DD0077 ∷ 0x9640001E50079 ∷ 0x9640001E9007A
+    ∷ 0x9640001ED007B ∷ 0x9640001F1007C ∷ 0x9640001F5007D ∷ 0x9640001F9007E ∷ 0x9640001FD007F ∷ 0x9640002110084
+    ∷ 0x9640002150085 ∷ 0x9640002210088 ∷ 0x964000271009C ∷ 0x984000279009E ∷ 0x1104900000002E ∷ 0x1D9040000000060
+    ∷ 0x219040000000068 ∷ 0x26104000000000E ∷ 0x21040003FD00FF ∷ 0x2104300035000D ∷ 0x21244C00450011 ∷ 0x23058C00490012
+    ∷ 0x21240C004D0013 ∷ 0x2A904000001F000 ∷ 0x2A904200000F001 ∷ 0x2104500000E001 ∷ 0x2104600000E002 ∷ 0x25060C0045E003
+    ∷ 0x2F104700000E047 ∷ 0x2F104700000E082 ∷ 0x2F104700000E086 ∷ 0x2F104700000E089 ∷ 0x2F104700000E088 ∷ 0x2F104700000E087
+    ∷ 0x2F104700000E08A ∷ []
+
+-- the forms of numbers with the limit of a, and the limits of x, of the rows that have any; rows name them from 1 on
+unfoldable pub seconds : List ℕ
+seconds =
+    0xE008 ∷ 0x1FFFE019 ∷ 0x1FE002 ∷ 0x12008 ∷ 0x1E008 ∷ 0x1FFFE010
+    ∷ 0xEC08 ∷ 0xCD08 ∷ 0x3 ∷ 0x4 ∷ 0x1FFFE000 ∷ []
+
+unfoldable pub thirds : List ℕ
+thirds =
+    0x1 ∷ 0xFF ∷ 0x0 ∷ 0x0 ∷ 0x0 ∷ 0x0
+    ∷ 0x0 ∷ 0x0 ∷ 0xFFFFFFFFFFFFFFFF ∷ 0xFFFFFFF ∷ 0xFFFFFFFFFFFFFFFF ∷ []
+
+-- the columns of a row: kind, opcode, whether boxed, whether fields are last, text, children and places; numbers and the limits
+unfoldable pub unpack : ℕ → Row
+unpack w =
+    let v = entry seconds 1 (w / 2 ^ 54) in
     row (w % 65536) (w / 2 ^ 16 % 4) (w / 2 ^ 18 % 65536) (eqb (w / 2 ^ 34 % 2) 1) (textOf (w / 2 ^ 36 % 8))
-    (numbersOf (v % 8) (v / 8 % 4) (v / 32 % 256)) (v / 8192) x
+    (numbersOf (v % 8) (v / 8 % 4) (v / 32 % 256)) (v / 8192) (entry thirds 1 (w / 2 ^ 54))
     (eqb (w / 2 ^ 35 % 2) 1) (w / 2 ^ 45 % 8) (placeOf (w / 2 ^ 42 % 8)) (restOf (w / 2 ^ 39 % 8)) (placeOf (w / 2 ^ 48 % 8)) (placesOf (w / 2 ^ 51 % 8))
-
--- the numbers of row j
-unfoldable pub lastWordOf : ℕ → ℕ
-lastWordOf j =
-    cond (eqb j 45) 0x984000279009E
-    (cond (eqb j 46) 0x1104900000002E
-    (cond (eqb j 47) 0x19040000000060
-    (cond (eqb j 48) 0x19040000000068
-    (cond (eqb j 49) 0x2104000000000E
-    (cond (eqb j 50) 0x21040003FD00FF
-    (cond (eqb j 51) 0x2104300035000D
-    (cond (eqb j 52) 0x21244C00450011
-    (cond (eqb j 53) 0x23058C00490012
-    (cond (eqb j 54) 0x21240C004D0013
-    (cond (eqb j 55) 0x2904000001F000
-    (cond (eqb j 56) 0x2904200000F001
-    (cond (eqb j 57) 0x2104500000E001
-    (cond (eqb j 58) 0x2104600000E002
-    (cond (eqb j 59) 0x25060C0045E003
-    (cond (eqb j 60) 0x3104700000E047
-    (cond (eqb j 61) 0x3104700000E082
-    (cond (eqb j 62) 0x3104700000E086
-    (cond (eqb j 63) 0x3104700000E089
-    (cond (eqb j 64) 0x3104700000E088
-    (cond (eqb j 65) 0x3104700000E087
-    0x3104700000E08A))))))))))))))))))))
-
-unfoldable pub middleWordOf : ℕ → ℕ
-middleWordOf j =
-    cond (eqb j 23) 0x9440002510094
-    (cond (eqb j 24) 0x9440002550095
-    (cond (eqb j 25) 0x944024E4A9293
-    (cond (eqb j 26) 0x94402524A9294
-    (cond (eqb j 27) 0x94402564A9295
-    (cond (eqb j 28) 0x9440002590096
-    (cond (eqb j 29) 0x9440002650099
-    (cond (eqb j 30) 0x9640001C90072
-    (cond (eqb j 31) 0x9640001CD0073
-    (cond (eqb j 32) 0x9640001D10074
-    (cond (eqb j 33) 0x9640001DD0077
-    (cond (eqb j 34) 0x9640001E50079
-    (cond (eqb j 35) 0x9640001E9007A
-    (cond (eqb j 36) 0x9640001ED007B
-    (cond (eqb j 37) 0x9640001F1007C
-    (cond (eqb j 38) 0x9640001F5007D
-    (cond (eqb j 39) 0x9640001F9007E
-    (cond (eqb j 40) 0x9640001FD007F
-    (cond (eqb j 41) 0x9640002110084
-    (cond (eqb j 42) 0x9640002150085
-    (cond (eqb j 43) 0x9640002210088
-    (cond (eqb j 44) 0x964000271009C
-    (lastWordOf j))))))))))))))))))))))
-
-unfoldable pub wordOf : ℕ → ℕ
-wordOf j =
-    cond (eqb j 0) 0x2281000210008
-    (cond (eqb j 1) 0x11400410010
-    (cond (eqb j 2) 0x116096E5B82
-    (cond (eqb j 3) 0x11400510014
-    (cond (eqb j 4) 0x116116E5B84
-    (cond (eqb j 5) 0x41116056E5B81
-    (cond (eqb j 6) 0x14412016E5B80
-    (cond (eqb j 7) 0x10410056E5B01
-    (cond (eqb j 8) 0x904108D6E5B23
-    (cond (eqb j 9) 0x104109D6E5B27
-    (cond (eqb j 10) 0x164184D6E5B13
-    (cond (eqb j 11) 0x144180229008A
-    (cond (eqb j 12) 0x14418023D008F
-    (cond (eqb j 13) 0x2504028100A0
-    (cond (eqb j 14) 0x2504028900A2
-    (cond (eqb j 15) 0x504028500A1
-    (cond (eqb j 16) 0x12400029100A4
-    (cond (eqb j 17) 0x1440002190086
-    (cond (eqb j 18) 0x9440001C10070
-    (cond (eqb j 19) 0x92400020D0083
-    (cond (eqb j 20) 0x92400021D0087
-    (cond (eqb j 21) 0x924000239008E
-    (cond (eqb j 22) 0x94400024D0093
-    (middleWordOf j)))))))))))))))))))))))
-
-unfoldable pub secondOf : ℕ → ℕ
-secondOf j =
-    cond (eqb j 3) 0xE008
-    (cond (eqb j 4) 0x1FFFE019
-    (cond (eqb j 5) 0x1FE002
-    (cond (eqb j 6) 0x12008
-    (cond (eqb j 7) 0x1E008
-    (cond (eqb j 8) 0x1FFFE010
-    (cond (eqb j 47) 0xEC08
-    (cond (eqb j 48) 0xCD08
-    (cond (eqb j 49) 0x3
-    (cond (eqb j 55) 0x4
-    (cond (eqb j 56) 0x4
-    (cond (eqb j 60) 0x1FFFE000
-    (cond (eqb j 61) 0x1FFFE000
-    (cond (eqb j 62) 0x1FFFE000
-    (cond (eqb j 63) 0x1FFFE000
-    (cond (eqb j 64) 0x1FFFE000
-    (cond (eqb j 65) 0x1FFFE000
-    (cond (eqb j 66) 0x1FFFE000
-    0)))))))))))))))))
-
-unfoldable pub thirdOf : ℕ → ℕ
-thirdOf j =
-    cond (eqb j 3) 0x1
-    (cond (eqb j 4) 0xFF
-    (cond (eqb j 49) 0xFFFFFFFFFFFFFFFF
-    (cond (eqb j 55) 0xFFFFFFF
-    (cond (eqb j 56) 0xFFFFFFF
-    (cond (eqb j 60) 0xFFFFFFFFFFFFFFFF
-    (cond (eqb j 61) 0xFFFFFFFFFFFFFFFF
-    (cond (eqb j 62) 0xFFFFFFFFFFFFFFFF
-    (cond (eqb j 63) 0xFFFFFFFFFFFFFFFF
-    (cond (eqb j 64) 0xFFFFFFFFFFFFFFFF
-    (cond (eqb j 65) 0xFFFFFFFFFFFFFFFF
-    (cond (eqb j 66) 0xFFFFFFFFFFFFFFFF
-    0)))))))))))

@@ -1,9 +1,9 @@
 // The kinds of terms: one table of rows that checker, encoder and reader share, found by kind and by leading byte.
 ghost use mathlib.Core.Path.{_≡_};
 ghost use Prim.Native.Nat.{_+_, _<_};
-ghost use lib.ListN.{getD, drop};
-ghost use Rattle.grammar.specs.Kinds.{kinds, noRow, position, rank, stands, childPlace};
-ghost use Rattle.grammar.specs.Packed.{placeOf, placesOf, textOf, restOf, numbersOf, unpack, wordOf, middleWordOf, lastWordOf, secondOf, thirdOf};
+ghost use lib.ListN.{drop};
+ghost use Rattle.grammar.specs.Kinds.{kinds, position, rowAt, rank, stands, childPlace};
+ghost use Rattle.grammar.specs.Packed.{placeOf, placesOf, textOf, restOf, numbersOf, unpack, entry, words, seconds, thirds};
 ghost use Rattle.grammar.specs.Family.{familyOf};
 
 // Where a term may stand: in a list (L), as an operand or a target (V), as data (D); as a package's element, a field's entry, a
@@ -80,7 +80,7 @@ pub struct Row {
     pub places: Places,
 }
 
-// ── A row, from the digits of three numbers
+// ── Columns, from the digits of a row's number
 
 fn place_of(c: u64) -> Place
     ensures { λ r. ⌜ r ≡ placeOf c ⌝ }
@@ -148,67 +148,41 @@ fn numbers_of(c: u64, width: u64, base: u64) -> Numbers
     }
 }
 
-fn unpacked(w: u64, v: u64, x: u64) -> Row
-    ensures { λ r. ⌜ r ≡ unpack w v x ⌝ }
-{
-    let text = text_of(w / 0x1000000000 % 8);
-    let numbers = numbers_of(v % 8, v / 8 % 4, v / 32 % 256);
-    let operand = place_of(w / 0x40000000000 % 8);
-    let rest = rest_of(w / 0x8000000000 % 8);
-    let place = place_of(w / 0x1000000000000 % 8);
-    let places = places_of(w / 0x8000000000000 % 8);
-    Row {
-        kind: w % 65536,
-        ops: w / 65536 % 4,
-        op: w / 0x40000 % 65536,
-        boxed: w / 0x400000000 % 2 == 1,
-        text,
-        numbers,
-        alimit: v / 8192,
-        xlimit: x,
-        last: w / 0x800000000 % 2 == 1,
-        operands: w / 0x200000000000 % 8,
-        operand,
-        rest,
-        place,
-        places,
-    }
-}
-
-// ── The rows, three numbers each: constants in a match, which the machine code reads from one table. An array constant would be
-// made anew on the stack at every look-up.
+// ── The rows, a number each, and by its last digits two more: constants in a match, which the machine code reads from one table. An
+// array constant would be made anew on the stack at every look-up.
 
 fn last_word(j: usize) -> u64
-    ensures { λ r. ⌜ r ≡ lastWordOf j ⌝ }
+    ensures { λ r. ⌜ r ≡ entry (drop 45 words) 45 j ⌝ }
 {
     match j {
         45 => 0x984000279009E,
         46 => 0x1104900000002E,
-        47 => 0x19040000000060,
-        48 => 0x19040000000068,
-        49 => 0x2104000000000E,
+        47 => 0x1D9040000000060,
+        48 => 0x219040000000068,
+        49 => 0x26104000000000E,
         50 => 0x21040003FD00FF,
         51 => 0x2104300035000D,
         52 => 0x21244C00450011,
         53 => 0x23058C00490012,
         54 => 0x21240C004D0013,
-        55 => 0x2904000001F000,
-        56 => 0x2904200000F001,
+        55 => 0x2A904000001F000,
+        56 => 0x2A904200000F001,
         57 => 0x2104500000E001,
         58 => 0x2104600000E002,
         59 => 0x25060C0045E003,
-        60 => 0x3104700000E047,
-        61 => 0x3104700000E082,
-        62 => 0x3104700000E086,
-        63 => 0x3104700000E089,
-        64 => 0x3104700000E088,
-        65 => 0x3104700000E087,
-        _ => 0x3104700000E08A,
+        60 => 0x2F104700000E047,
+        61 => 0x2F104700000E082,
+        62 => 0x2F104700000E086,
+        63 => 0x2F104700000E089,
+        64 => 0x2F104700000E088,
+        65 => 0x2F104700000E087,
+        66 => 0x2F104700000E08A,
+        _ => 0,
     }
 }
 
 fn middle_word(j: usize) -> u64
-    ensures { λ r. ⌜ r ≡ middleWordOf j ⌝ }
+    ensures { λ r. ⌜ r ≡ entry (drop 23 words) 23 j ⌝ }
 {
     match j {
         23 => 0x9440002510094,
@@ -238,18 +212,18 @@ fn middle_word(j: usize) -> u64
 }
 
 fn word_of(j: usize) -> u64
-    ensures { λ r. ⌜ r ≡ wordOf j ⌝ }
+    ensures { λ r. ⌜ r ≡ entry words 0 j ⌝ }
 {
     match j {
         0 => 0x2281000210008,
         1 => 0x11400410010,
         2 => 0x116096E5B82,
-        3 => 0x11400510014,
-        4 => 0x116116E5B84,
-        5 => 0x41116056E5B81,
-        6 => 0x14412016E5B80,
-        7 => 0x10410056E5B01,
-        8 => 0x904108D6E5B23,
+        3 => 0x40011400510014,
+        4 => 0x800116116E5B84,
+        5 => 0xC41116056E5B81,
+        6 => 0x1014412016E5B80,
+        7 => 0x1410410056E5B01,
+        8 => 0x18904108D6E5B23,
         9 => 0x104109D6E5B27,
         10 => 0x164184D6E5B13,
         11 => 0x144180229008A,
@@ -268,60 +242,141 @@ fn word_of(j: usize) -> u64
     }
 }
 
-fn second_of(j: usize) -> u64
-    ensures { λ r. ⌜ r ≡ secondOf j ⌝ }
+fn second_of(c: u64) -> u64
+    ensures { λ r. ⌜ r ≡ entry seconds 1 c ⌝ }
 {
-    match j {
-        3 => 0xE008,
-        4 => 0x1FFFE019,
-        5 => 0x1FE002,
-        6 => 0x12008,
-        7 => 0x1E008,
-        8 => 0x1FFFE010,
-        47 => 0xEC08,
-        48 => 0xCD08,
-        49 => 0x3,
-        55 => 0x4,
-        56 => 0x4,
-        60 => 0x1FFFE000,
-        61 => 0x1FFFE000,
-        62 => 0x1FFFE000,
-        63 => 0x1FFFE000,
-        64 => 0x1FFFE000,
-        65 => 0x1FFFE000,
-        66 => 0x1FFFE000,
+    match c {
+        1 => 0xE008,
+        2 => 0x1FFFE019,
+        3 => 0x1FE002,
+        4 => 0x12008,
+        5 => 0x1E008,
+        6 => 0x1FFFE010,
+        7 => 0xEC08,
+        8 => 0xCD08,
+        9 => 0x3,
+        10 => 0x4,
+        11 => 0x1FFFE000,
         _ => 0,
     }
 }
 
-fn third_of(j: usize) -> u64
-    ensures { λ r. ⌜ r ≡ thirdOf j ⌝ }
+fn third_of(c: u64) -> u64
+    ensures { λ r. ⌜ r ≡ entry thirds 1 c ⌝ }
 {
-    match j {
-        3 => 0x1,
-        4 => 0xFF,
-        49 => 0xFFFFFFFFFFFFFFFF,
-        55 => 0xFFFFFFF,
-        56 => 0xFFFFFFF,
-        60 => 0xFFFFFFFFFFFFFFFF,
-        61 => 0xFFFFFFFFFFFFFFFF,
-        62 => 0xFFFFFFFFFFFFFFFF,
-        63 => 0xFFFFFFFFFFFFFFFF,
-        64 => 0xFFFFFFFFFFFFFFFF,
-        65 => 0xFFFFFFFFFFFFFFFF,
-        66 => 0xFFFFFFFFFFFFFFFF,
+    match c {
+        1 => 0x1,
+        2 => 0xFF,
+        3 => 0x0,
+        4 => 0x0,
+        5 => 0x0,
+        6 => 0x0,
+        7 => 0x0,
+        8 => 0x0,
+        9 => 0xFFFFFFFFFFFFFFFF,
+        10 => 0xFFFFFFF,
+        11 => 0xFFFFFFFFFFFFFFFF,
         _ => 0,
+    }
+}
+
+fn unpacked(w: u64) -> Row
+    ensures { λ r. ⌜ r ≡ unpack w ⌝ }
+{
+    let c = w / 0x40000000000000;
+    let v = second_of(c);
+    let x = third_of(c);
+    let text = text_of(w / 0x1000000000 % 8);
+    let numbers = numbers_of(v % 8, v / 8 % 4, v / 32 % 256);
+    let operand = place_of(w / 0x40000000000 % 8);
+    let rest = rest_of(w / 0x8000000000 % 8);
+    let place = place_of(w / 0x1000000000000 % 8);
+    let places = places_of(w / 0x8000000000000 % 8);
+    Row {
+        kind: w % 65536,
+        ops: w / 65536 % 4,
+        op: w / 0x40000 % 65536,
+        boxed: w / 0x400000000 % 2 == 1,
+        text,
+        numbers,
+        alimit: v / 8192,
+        xlimit: x,
+        last: w / 0x800000000 % 2 == 1,
+        operands: w / 0x200000000000 % 8,
+        operand,
+        rest,
+        place,
+        places,
     }
 }
 
 pub fn row_at(j: usize) -> Row
-    requires { ⌜ j < 67 ⌝ }
-    ensures { λ r. ⌜ r ≡ getD kinds j noRow ⌝ }
+    ensures { λ r. ⌜ r ≡ rowAt j ⌝ }
 {
-    let w = word_of(j);
-    let v = second_of(j);
-    let x = third_of(j);
-    unpacked(w, v, x)
+    unpacked(word_of(j))
+}
+
+// ── One column of the row at a place, for whoever needs few: a row that is handed over is copied
+
+pub fn kind_at(j: usize) -> u64
+    ensures { λ r. ⌜ r ≡ rowAt j .kind ⌝ }
+{
+    word_of(j) % 65536
+}
+
+pub fn ops_at(j: usize) -> u64
+    ensures { λ r. ⌜ r ≡ rowAt j .ops ⌝ }
+{
+    word_of(j) / 65536 % 4
+}
+
+pub fn op_at(j: usize) -> u64
+    ensures { λ r. ⌜ r ≡ rowAt j .op ⌝ }
+{
+    word_of(j) / 0x40000 % 65536
+}
+
+pub fn boxed_at(j: usize) -> bool
+    ensures { λ r. ⌜ r ≡ rowAt j .boxed ⌝ }
+{
+    word_of(j) / 0x400000000 % 2 == 1
+}
+
+pub fn text_at(j: usize) -> Text
+    ensures { λ r. ⌜ r ≡ rowAt j .text ⌝ }
+{
+    text_of(word_of(j) / 0x1000000000 % 8)
+}
+
+pub fn numbers_at(j: usize) -> Numbers
+    ensures { λ r. ⌜ r ≡ rowAt j .numbers ⌝ }
+{
+    let v = second_of(word_of(j) / 0x40000000000000);
+    numbers_of(v % 8, v / 8 % 4, v / 32 % 256)
+}
+
+pub fn alimit_at(j: usize) -> u64
+    ensures { λ r. ⌜ r ≡ rowAt j .alimit ⌝ }
+{
+    second_of(word_of(j) / 0x40000000000000) / 8192
+}
+
+pub fn xlimit_at(j: usize) -> u64
+    ensures { λ r. ⌜ r ≡ rowAt j .xlimit ⌝ }
+{
+    third_of(word_of(j) / 0x40000000000000)
+}
+
+pub fn last_at(j: usize) -> bool
+    ensures { λ r. ⌜ r ≡ rowAt j .last ⌝ }
+{
+    word_of(j) / 0x800000000 % 2 == 1
+}
+
+pub fn rest_at(j: usize) -> Rest
+    ensures { λ r. ⌜ r ≡ rowAt j .rest ⌝ }
+{
+    rest_of(word_of(j) / 0x8000000000 % 8)
 }
 
 // ── Looked up

@@ -29,7 +29,7 @@ use Rattle.grammar.specs.Kinds.{kinds, normalKinds, otherKinds, rowOf}
 use Rattle.grammar.specs.KindLaws.{everyRow, rule}
 use Rattle.grammar.specs.Forest.{Fields}
 use Rattle.fields.specs.Fields.{numbersFit, textFits, inRange, textSpelled, spelled}
-use Rattle.fields.specs.Written.{pair, textBytes, formBytes}
+use Rattle.fields.specs.Written.{pair, textBytes, formBytes, fieldBytes}
 use Rattle.written.specs.Fine.{fieldsOf, narrow, Fine}
 
 -- ── Every row is narrow
@@ -57,6 +57,23 @@ module _ (r : Row) (v : Fields) (h : Fine r v) where
   pub fine-spelled : T (textSpelled (r .text) (r .kind) (v .text))
   unfolding spelled
   fine-spelled = h .2
+
+-- columns that were looked up one by one
+pub record Columns (r : Row) (t : Text) (k : ℕ) (f : Numbers) : Type 0 where
+  pub text : t ≡ r .text
+  pub kind : k ≡ r .kind
+  pub numbers : f ≡ r .numbers
+
+module _ {r : Row} {t : Text} {k : ℕ} {f : Numbers} (e : Columns r t k f) (v : Fields) (h : Fine r v) where
+  pub columns-text : T (textFits t k (v .text) (v .a) (v .x))
+  columns-text = rw (e .text, e .kind) (fine-text r v h)
+
+  pub columns-spelled : T (textSpelled t k (v .text))
+  columns-spelled = rw (e .text, e .kind) (fine-spelled r v h)
+
+pub columns-bytes : {r : Row} {t : Text} {k : ℕ} {f : Numbers} → Columns r t k f → (v : Fields) → fieldBytes r v ≡ textBytes t k v ++ formBytes f (r .alimit) (r .xlimit) (v .a) (v .x)
+unfolding fieldBytes
+columns-bytes e v = rw (e .text, e .kind, e .numbers) refl
 
 pub valid-text : (kind : ℕ) {t : List ℕ} {a x : ℕ} → T (textFits DescriptorText kind t a x) → T (textSpelled DescriptorText kind t)
     → Valid (descriptors.rowOf kind) t a x

@@ -6,6 +6,7 @@ ghost use lib.Dec.{T};
 ghost use lib.ListN.{length};
 ghost use Rattle.octets.specs.Bytes.{le};
 ghost use Rattle.octets.specs.Filling.{Wrote};
+ghost use Rattle.grammar.specs.Kinds.{rowAt};
 ghost use Rattle.ident.specs.Ident.{isEisa, eisaId, isUuid, uuid};
 ghost use Rattle.fields.specs.Fields.{textFits, textSpelled};
 ghost use Rattle.fields.specs.Written.{pair, textBytes, formBytes, fieldBytes};
@@ -127,27 +128,30 @@ fn put_form(
     }
 }
 
-// ── Both
+// ── Both, of the kind at j in the table
 
 // The bytes of a term's text and numbers.
-pub fn field_len(row: grammar::Row, t: &[u8], a: u64, x: u64) -> usize
-    requires { ⌜ Fine row (fieldsOf (now t) a x) ⌝ }
-    ensures { λ r. ⌜ r ≡ length (fieldBytes row (fieldsOf (now (t .entry)) a x)) ⌝ }
+pub fn field_len(j: usize, t: &[u8], a: u64, x: u64) -> usize
+    requires { ⌜ Fine (rowAt j) (fieldsOf (now t) a x) ⌝ }
+    ensures { λ r. ⌜ r ≡ length (fieldBytes (rowAt j) (fieldsOf (now (t .entry)) a x)) ⌝ }
 {
-    let text = row.text;
-    let numbers = row.numbers;
-    text_len(text, row.kind, t) + form_len(numbers, x)
+    let text = grammar::text_at(j);
+    let numbers = grammar::numbers_at(j);
+    text_len(text, grammar::kind_at(j), t) + form_len(numbers, x)
 }
 
 // The text, then the numbers.
-pub fn put_fields(row: grammar::Row, t: &[u8], a: u64, x: u64, out: &mut [u8]) -> usize
-    requires { ⌜ Fine row (fieldsOf (now t) a x) × (length (fieldBytes row (fieldsOf (now t) a x)) ≤ length (now out)) ⌝ }
-    ensures { λ r. ⌜ Wrote (fieldBytes row (fieldsOf (now (t .entry)) a x)) (now (out .entry)) (now (out .exit)) r ⌝ }
+pub fn put_fields(j: usize, t: &[u8], a: u64, x: u64, out: &mut [u8]) -> usize
+    requires { ⌜ Fine (rowAt j) (fieldsOf (now t) a x) × (length (fieldBytes (rowAt j) (fieldsOf (now t) a x)) ≤ length (now out)) ⌝ }
+    ensures { λ r. ⌜ Wrote (fieldBytes (rowAt j) (fieldsOf (now (t .entry)) a x)) (now (out .entry)) (now (out .exit)) r ⌝ }
 {
-    let text = row.text;
-    let numbers = row.numbers;
+    let text = grammar::text_at(j);
+    let kind = grammar::kind_at(j);
+    let numbers = grammar::numbers_at(j);
+    let alimit = grammar::alimit_at(j);
+    let xlimit = grammar::xlimit_at(j);
     let mut at = 0;
-    at = at + put_text(text, row.kind, t, a, x, &mut out[at..]);
-    at = at + put_form(numbers, row.alimit, row.xlimit, a, x, &mut out[at..]);
+    at = at + put_text(text, kind, t, a, x, &mut out[at..]);
+    at = at + put_form(numbers, alimit, xlimit, a, x, &mut out[at..]);
     at
 }

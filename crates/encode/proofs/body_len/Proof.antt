@@ -9,9 +9,9 @@ use Rattle.encode.proofs.body_len.Tie as tie
 pub body-len-spec : {M : Type 1} → statement M
 unfolding bodyOf
 body-len-spec =
-    tie.close (tie.spec (λ c κs. (c .before .pre .fine, omega (arith, c .before .pre .size)))  -- before-len-requires
-    (λ c κs. c .before .before .pre .fine)  -- behind-len-requires
-    (λ c. omega (arith, body-few (c .before .before .before .args .r .kids) (c .before .before .before .pre), c .before .before-len .ensures))  -- add-result
-    (λ c. omega (arith, body-few (c .before .before .before .args .r .kids) (c .before .before .before .pre), c .before .before-len .ensures, c .behind-len .ensures))  -- add-result-2
-    (λ c. rw (c .before .before-len .ensures, c .behind-len .ensures) refl)  -- returns
+    tie.close
+    (tie.spec
+    (λ c κs. (c .before .pre .fine, omega (arith, c .before .pre .size)))  -- around-len-requires
+    (λ c. omega (arith, body-few (c .before .before .args .r .kids) (c .before .before .pre), c .around-len .ensures))  -- add-result
+    (λ c. rw (c .around-len .ensures) refl)  -- returns
     )

@@ -13,8 +13,9 @@ put-table-spec =
     (λ c κs. search needs)  -- put-opened-requires
     (λ c. search needs)  -- sub-update-checksum
     (λ c. search needs)  -- part-update-checksum-start
-    (λ c. omega (arith, table-size (c .before .before .before .before .before .before .before .before .pre .1) (c .before .before .put-opened .ensures)))  -- part-update-checksum-end
-    (λ c κs. (rw length-take (omega (arith, table-size (c .before .before .before .before .before .before .before .before .before .pre .1) (c .before .before .before .put-opened .ensures))), rw length-take (omega (arith, table-size (c .before .before .before .before .before .before .before .before .before .pre .1) (c .before .before .before .put-opened .ensures), c .before .before .before .before .before .before .before .before .before .pre .1 .few))))  -- update-checksum-requires
+    (λ c. omega (arith, table-size (c .before .before .before .before .before .before .before .before .before .before .before .before .pre .2) (c .before .before .before .before .put-opened .ensures)))  -- part-update-checksum-end
+    (λ c κs. (rw length-take (omega (arith, table-size (c .before .before .before .before .before .before .before .before .before .before .before .before .before .pre .2) (c .before .before .before .before .before .put-opened .ensures))), rw length-take (omega (arith, table-size (c .before .before .before .before .before .before .before .before .before .before .before .before .before .pre .2) (c .before .before .before .before .before .put-opened .ensures), c .before .before .before .before .before .before .before .before .before .before .before .before .before .pre .2 .few))))  -- update-checksum-requires
     (λ c. search needs)  -- same-length
-    (λ c. sealed-over (omega (arith, table-size (c .before .before .before .before .before .before .before .before .before .before .before .before .pre .1) (c .before .before .before .before .before .before .put-opened .ensures))) (c .before .before .before .before .before .before .put-opened .ensures) (c .before .before .update-checksum .ensures))  -- returns
+    (λ c. search needs)  -- same-length-2
+    (λ c. sealed-over (omega (arith, table-size (c .before .before .before .before .before .before .before .before .before .before .before .before .before .before .before .before .pre .2) (c .before .before .before .before .before .before .before .before .put-opened .ensures))) (c .before .before .before .before .before .before .before .before .put-opened .ensures) (c .before .before .update-checksum .ensures))  -- returns
     )

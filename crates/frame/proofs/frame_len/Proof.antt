@@ -1,6 +1,7 @@
 -- `frame::frame_len` meets its contract: opcode and length are added. Assumes nothing.
 use native.Mathlib.Omega.{arith}
 use borrow.Author.Needs.{needs}
+use Rattle.grammar.specs.Kinds.{rowAt}
 use Rattle.frame.specs.FrameLaws.{length-most, frame-length}
 use Rattle.frame.proofs.frame_len.Statement.{statement}
 use Rattle.frame.proofs.frame_len.Tie as tie
@@ -9,7 +10,9 @@ pub frame-len-spec : {M : Type 1} → statement M
 frame-len-spec =
     tie.close
     (tie.spec
+    (λ c κs. search needs)  -- ops-at-requires
+    (λ c κs. search needs)  -- boxed-at-requires
     (λ c κs. search needs)  -- length-len-requires
-    (λ c. omega (arith, c .length-len .ensures, length-most (c .before .args .row .boxed) (c .before .args .body), c .before .pre))  -- add-result
-    (λ c. omega (arith, c .length-len .ensures, frame-length (c .before .args .row) (c .before .args .body)))  -- returns
+    (λ c. omega (arith, c .before .before .ops-at .ensures, c .length-len .ensures, length-most (c .before .boxed-at .result) (c .before .before .before .args .body), c .before .before .before .pre))  -- add-result
+    (λ c. omega (arith, c .before .before .ops-at .ensures, c .length-len .ensures, frame-length (rowAt (c .before .before .before .args .j)) (c .before .before .before .args .body) (c .before .boxed-at .ensures)))  -- returns
     )

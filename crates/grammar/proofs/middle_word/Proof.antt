@@ -2,12 +2,12 @@
 use mathlib.Core.Path.{refl}
 use borrow.Author.Tests.{ne-eqb}
 use borrow.Author.Needs.{needs}
-use Rattle.grammar.specs.Packed.{middleWordOf}
+use Rattle.grammar.specs.Packed.{entry, words}
 use Rattle.grammar.proofs.middle_word.Statement.{statement}
 use Rattle.grammar.proofs.middle_word.Tie as tie
 
 pub middle-word-spec : {M : Type 1} → statement M
-unfolding middleWordOf
+unfolding entry words
 middle-word-spec =
     tie.close
     (tie.spec

@@ -1,12 +1,12 @@
--- `grammar::second_of` meets its contract: each number is told, or is none of them. Assumes nothing.
+-- `grammar::second_of` meets its contract: each number is told, or is none of these. Assumes nothing.
 use mathlib.Core.Path.{refl}
 use borrow.Author.Tests.{ne-eqb}
-use Rattle.grammar.specs.Packed.{secondOf}
+use Rattle.grammar.specs.Packed.{entry, seconds}
 use Rattle.grammar.proofs.second_of.Statement.{statement}
 use Rattle.grammar.proofs.second_of.Tie as tie
 
 pub second-of-spec : {M : Type 1} → statement M
-unfolding secondOf
+unfolding entry seconds
 second-of-spec =
     tie.close
     (tie.spec
@@ -21,12 +21,5 @@ second-of-spec =
     (λ c. rw (c .match .keys9) refl)  -- returns-9
     (λ c. rw (c .match .keys10) refl)  -- returns-10
     (λ c. rw (c .match .keys11) refl)  -- returns-11
-    (λ c. rw (c .match .keys12) refl)  -- returns-12
-    (λ c. rw (c .match .keys13) refl)  -- returns-13
-    (λ c. rw (c .match .keys14) refl)  -- returns-14
-    (λ c. rw (c .match .keys15) refl)  -- returns-15
-    (λ c. rw (c .match .keys16) refl)  -- returns-16
-    (λ c. rw (c .match .keys17) refl)  -- returns-17
-    (λ c. rw (c .match .keys18) refl)  -- returns-18
-    (λ c. let r = c .match .rest in rw (ne-eqb _ _ (r .0 .0 .0 .0 .0 .0 .0 .0 .0 .0 .0 .0 .0 .0 .0 .0 .0 .1), ne-eqb _ _ (r .0 .0 .0 .0 .0 .0 .0 .0 .0 .0 .0 .0 .0 .0 .0 .0 .1), ne-eqb _ _ (r .0 .0 .0 .0 .0 .0 .0 .0 .0 .0 .0 .0 .0 .0 .0 .1), ne-eqb _ _ (r .0 .0 .0 .0 .0 .0 .0 .0 .0 .0 .0 .0 .0 .0 .1), ne-eqb _ _ (r .0 .0 .0 .0 .0 .0 .0 .0 .0 .0 .0 .0 .0 .1), ne-eqb _ _ (r .0 .0 .0 .0 .0 .0 .0 .0 .0 .0 .0 .0 .1), ne-eqb _ _ (r .0 .0 .0 .0 .0 .0 .0 .0 .0 .0 .0 .1), ne-eqb _ _ (r .0 .0 .0 .0 .0 .0 .0 .0 .0 .0 .1), ne-eqb _ _ (r .0 .0 .0 .0 .0 .0 .0 .0 .0 .1), ne-eqb _ _ (r .0 .0 .0 .0 .0 .0 .0 .0 .1), ne-eqb _ _ (r .0 .0 .0 .0 .0 .0 .0 .1), ne-eqb _ _ (r .0 .0 .0 .0 .0 .0 .1), ne-eqb _ _ (r .0 .0 .0 .0 .0 .1), ne-eqb _ _ (r .0 .0 .0 .0 .1), ne-eqb _ _ (r .0 .0 .0 .1), ne-eqb _ _ (r .0 .0 .1), ne-eqb _ _ (r .0 .1), ne-eqb _ _ (r .1)) refl)  -- returns-19
+    (λ c. let r = c .match .rest in rw (ne-eqb _ _ (r .0 .0 .0 .0 .0 .0 .0 .0 .0 .0 .1), ne-eqb _ _ (r .0 .0 .0 .0 .0 .0 .0 .0 .0 .1), ne-eqb _ _ (r .0 .0 .0 .0 .0 .0 .0 .0 .1), ne-eqb _ _ (r .0 .0 .0 .0 .0 .0 .0 .1), ne-eqb _ _ (r .0 .0 .0 .0 .0 .0 .1), ne-eqb _ _ (r .0 .0 .0 .0 .0 .1), ne-eqb _ _ (r .0 .0 .0 .0 .1), ne-eqb _ _ (r .0 .0 .0 .1), ne-eqb _ _ (r .0 .0 .1), ne-eqb _ _ (r .0 .1), ne-eqb _ _ (r .1)) refl)  -- returns-12
     )

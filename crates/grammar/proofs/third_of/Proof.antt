@@ -1,12 +1,12 @@
--- `grammar::third_of` meets its contract: each number is told, or is none of them. Assumes nothing.
+-- `grammar::third_of` meets its contract: each number is told, or is none of these. Assumes nothing.
 use mathlib.Core.Path.{refl}
 use borrow.Author.Tests.{ne-eqb}
-use Rattle.grammar.specs.Packed.{thirdOf}
+use Rattle.grammar.specs.Packed.{entry, thirds}
 use Rattle.grammar.proofs.third_of.Statement.{statement}
 use Rattle.grammar.proofs.third_of.Tie as tie
 
 pub third-of-spec : {M : Type 1} → statement M
-unfolding thirdOf
+unfolding entry thirds
 third-of-spec =
     tie.close
     (tie.spec
@@ -21,6 +21,5 @@ third-of-spec =
     (λ c. rw (c .match .keys9) refl)  -- returns-9
     (λ c. rw (c .match .keys10) refl)  -- returns-10
     (λ c. rw (c .match .keys11) refl)  -- returns-11
-    (λ c. rw (c .match .keys12) refl)  -- returns-12
-    (λ c. let r = c .match .rest in rw (ne-eqb _ _ (r .0 .0 .0 .0 .0 .0 .0 .0 .0 .0 .0 .1), ne-eqb _ _ (r .0 .0 .0 .0 .0 .0 .0 .0 .0 .0 .1), ne-eqb _ _ (r .0 .0 .0 .0 .0 .0 .0 .0 .0 .1), ne-eqb _ _ (r .0 .0 .0 .0 .0 .0 .0 .0 .1), ne-eqb _ _ (r .0 .0 .0 .0 .0 .0 .0 .1), ne-eqb _ _ (r .0 .0 .0 .0 .0 .0 .1), ne-eqb _ _ (r .0 .0 .0 .0 .0 .1), ne-eqb _ _ (r .0 .0 .0 .0 .1), ne-eqb _ _ (r .0 .0 .0 .1), ne-eqb _ _ (r .0 .0 .1), ne-eqb _ _ (r .0 .1), ne-eqb _ _ (r .1)) refl)  -- returns-13
+    (λ c. let r = c .match .rest in rw (ne-eqb _ _ (r .0 .0 .0 .0 .0 .0 .0 .0 .0 .0 .1), ne-eqb _ _ (r .0 .0 .0 .0 .0 .0 .0 .0 .0 .1), ne-eqb _ _ (r .0 .0 .0 .0 .0 .0 .0 .0 .1), ne-eqb _ _ (r .0 .0 .0 .0 .0 .0 .0 .1), ne-eqb _ _ (r .0 .0 .0 .0 .0 .0 .1), ne-eqb _ _ (r .0 .0 .0 .0 .0 .1), ne-eqb _ _ (r .0 .0 .0 .0 .1), ne-eqb _ _ (r .0 .0 .0 .1), ne-eqb _ _ (r .0 .0 .1), ne-eqb _ _ (r .0 .1), ne-eqb _ _ (r .1)) refl)  -- returns-12
     )

@@ -8,11 +8,13 @@ pub unpacked-spec : {M : Type 1} → statement M
 unpacked-spec =
     tie.close
     (tie.spec
+    (λ c κs. search needs)  -- second-of-requires
+    (λ c κs. search needs)  -- third-of-requires
     (λ c κs. search needs)  -- text-of-requires
     (λ c κs. search needs)  -- numbers-of-requires
     (λ c κs. search needs)  -- place-of-requires
     (λ c κs. search needs)  -- rest-of-requires
     (λ c κs. search needs)  -- place-of-requires-2
     (λ c κs. search needs)  -- places-of-requires
-    (λ c. row-made _ _ _ (c .before .before .before .before .before .text-of .ensures) (c .before .before .before .before .numbers-of .ensures) (c .before .before .before .place-of .ensures) (c .before .before .rest-of .ensures) (c .before .place-of2 .ensures) (c .places-of .ensures))  -- returns
+    (λ c. row-made _ (c .before .before .before .before .before .before .before .second-of .ensures) (c .before .before .before .before .before .before .third-of .ensures) (c .before .before .before .before .before .text-of .ensures) (c .before .before .before .before .numbers-of .ensures) (c .before .before .before .place-of .ensures) (c .before .before .rest-of .ensures) (c .before .place-of2 .ensures) (c .places-of .ensures))  -- returns
     )

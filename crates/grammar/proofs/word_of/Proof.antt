@@ -2,12 +2,12 @@
 use mathlib.Core.Path.{refl}
 use borrow.Author.Tests.{ne-eqb}
 use borrow.Author.Needs.{needs}
-use Rattle.grammar.specs.Packed.{wordOf}
+use Rattle.grammar.specs.Packed.{entry, words}
 use Rattle.grammar.proofs.word_of.Statement.{statement}
 use Rattle.grammar.proofs.word_of.Tie as tie
 
 pub word-of-spec : {M : Type 1} → statement M
-unfolding wordOf
+unfolding entry words
 word-of-spec =
     tie.close
     (tie.spec

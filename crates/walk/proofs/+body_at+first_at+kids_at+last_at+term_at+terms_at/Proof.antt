@@ -248,7 +248,7 @@ pub +body-at+first-at+kids-at+last-at+term-at+terms-at-spec : {M : Type 1} → s
     (λ c κs. search needs)  -- term-at-start-at-requires
     (λ c κs. search needs)  -- term-at-bad-requires-2
     (λ c. term-nowhere _ _ _ _ _ (c .before .before .before .before .before .before .before .before .pre .1 .0 .within) (c .before .before .before .if1 .left) (c .before .before .start-at .ensures) (c .before .if2 .taken) (c .bad2 .ensures))  -- term-at-returns-2
-    (λ c κs. omega (arith, c .if2 .left))  -- term-at-row-at-requires
+    (λ c κs. search needs)  -- term-at-row-at-requires
     (λ c. omega (arith, begins-inside (c .before .before .before .before .before .before .before .before .args .b .now) (c .before .before .before .before .before .before .before .before .args .at) (starts-row (c .before .before .start-at .ensures) (c .before .if2 .left) (c .row-at .ensures)) (c .before .before .before .before .before .before .before .before .pre .1 .0 .within), c .before .before .before .before .before .before .before .before .pre .1 .0 .most))  -- term-at-add-box-at
     (λ c κs. begins-inside (c .before .before .before .before .before .before .before .before .args .b .now) (c .before .before .before .before .before .before .before .before .args .at) (starts-row (c .before .before .start-at .ensures) (c .before .if2 .left) (c .row-at .ensures)) (c .before .before .before .before .before .before .before .before .pre .1 .0 .within))  -- term-at-box-at-requires
     (λ c. search needs)  -- term-at-enum-known-value
