@@ -6,7 +6,7 @@ use mathlib.Core.List.{List, [], _∷_, _++_, flatten, append-assoc, append-nil}
 use Prim.Native.Nat.{ℕ, _+_, _-_, _*_, _^_, _≤_, _<_}
 use native.Mathlib.Omega.{arith}
 use native.Mathlib.Nat.{pow-le-pow-right, lt-of-lt-of-le, mul-le-mul-left, mul-add, mul-zero}
-use lib.Dec.{T, eqb, leb, ltb, leb→le, ltb→lt, eqb→eq}
+use lib.Dec.{T, eqb, leb→le, ltb→lt, eqb→eq}
 use lib.ListN.{length, length-append}
 use borrow.Author.Tests.{lt-ltb, le-ltb, le-leb, lt-leb, eq-eqb, ne-eqb}
 use Rattle.octets.specs.Bytes.{every, isByte, le, value, leAt}

@@ -15,29 +15,26 @@ use Rattle.grammar.specs.declared.Place.the-variants.{InList}
 use Rattle.grammar.specs.Kinds.{rowOf, rowIn}
 use Rattle.grammar.specs.Forest.{Fields, Forest, nil, node, count, depth, flatten}
 use Rattle.grammar.specs.ForestLaws.{flatten-build}
-use Rattle.tree.specs.Bytes.{body, box, termBytes, bytes}
+use Rattle.tree.specs.Bytes.{body, termBytes, bytes}
 use Rattle.tree.specs.Normal.{norm, bodyFits, roomy}
 use Rattle.tree.specs.NormalLaws.{norm-depth, bytes-norm}
+use Rattle.tree.specs.BodyLaws.{box-least}
 use Rattle.term.specs.File.{identity}
 use Rattle.term.specs.Record.{recordsOf, recordsFrom}
+use Rattle.term.specs.RecordLaws.{records-length}
 use Rattle.sdt.specs.Table.{opened, sealed}
 use Rattle.arity.specs.Arity.{argsOf}
 use Rattle.checker.specs.Refusal.{refusalOf, recordSection, aritySection, poolSection}
 use Rattle.checker.specs.Accepted.{termOf, forestOf, accepted-forest}
 use Rattle.encode.specs.Encode.{tableOf, lateNumber, described, outcomeOf, encodeOf}
 use Rattle.encode.specs.Walk.{below, walk-all}
-use Rattle.encode.specs.WalkLaws.{termsFrom, records-length}
+use Rattle.encode.specs.WalkLaws.{termsFrom}
 use Rattle.encode.specs.Answer.{whole, figuresNumber, walked}
 
 -- ── Bodies are no longer than their terms, nor are children
-box-most : (b : Bool) (bs : List ℕ) → length bs ≤ length (box b bs)
-unfolding box
-box-most true bs = simp length-append (omega arith)
-box-most false bs = omega arith
-
 pub body-most : (r : Row) (v : Fields) (n : ℕ) (bs : List ℕ) → length (body r v n bs) ≤ length (termBytes r v n bs)
 unfolding termBytes
-body-most r v n bs = simp length-append (omega (arith, box-most (r .boxed) (body r v n bs)))
+body-most r v n bs = simp length-append (omega (arith, box-least (r .boxed) (body r v n bs)))
 
 pub kids-most : (r : Row) (v : Fields) (n : ℕ) (bs : List ℕ) → length bs ≤ length (body r v n bs)
 unfolding body

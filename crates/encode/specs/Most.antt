@@ -25,8 +25,6 @@ use Rattle.grammar.specs.declared.Text.{Text}
 use Rattle.grammar.specs.declared.Text.the-variants.{Unused, PathText, SegmentText, Ascii, AnyBytes, EisaText, UuidText, DescriptorText}
 use Rattle.grammar.specs.declared.Numbers.{Numbers}
 use Rattle.grammar.specs.declared.Numbers.the-variants.{Digits, Swapped, FieldFlags, IntegerX, LengthX}
-use Rattle.grammar.specs.declared.Rest.{Rest}
-use Rattle.grammar.specs.declared.Rest.the-variants.{Nothing, Arity, Listed, Counted, Measured}
 use Rattle.grammar.specs.declared.Row.{Row}
 use Rattle.grammar.specs.Kinds.{opcode, normalKinds, otherKinds, kinds, rowOf, rowIn, noRow}
 use Rattle.grammar.specs.KindLaws.{everyRow, rule}
@@ -34,6 +32,7 @@ use Rattle.grammar.specs.Forest.{Fields}
 use Rattle.fields.specs.Written.{textBytes, formBytes, fieldBytes}
 use Rattle.tree.specs.Bytes.{back, behind, termBytes}
 use Rattle.frame.specs.Frame.{lengthOf, frameOf, frontOf, beforeOf, bodySize, term-length}
+use Rattle.frame.specs.FrameLaws.{back-most, front-most}
 
 -- ── Fields
 descriptor-few : (kind : ℕ) (v : Fields) → length (descriptors.descriptor (descriptors.rowOf kind) (v .text) (v .a) (v .x)) ≤ 46 + length (v .text)
@@ -76,22 +75,6 @@ form-few FieldFlags al xl a x t = rw (le-length 1 a) (omega arith)
 form-few IntegerX al xl a x t = integer-most x
 form-few LengthX al xl a x t = omega (arith, pkg-length-length false x, following-most x)
 
-front-few : (f : Rest) (n m : ℕ) → length (frontOf f n m) ≤ 9
-unfolding frontOf
-front-few Nothing n m = omega arith
-front-few Arity n m = omega arith
-front-few Listed n m = omega arith
-front-few Counted n m = rw (le-length 1 n) (omega arith)
-front-few Measured n m = integer-most (m + 2)
-
-back-few : (f : Rest) → length (back f) ≤ 2
-unfolding back
-back-few Nothing = omega arith
-back-few Arity = omega arith
-back-few Listed = omega arith
-back-few Counted = omega arith
-back-few Measured = omega arith
-
 -- ── Terms: what is before the children, behind them, and around the body
 module _ (r : Row) (v : Fields) (s : T (slim r)) where
   fields-few : length (fieldBytes r v) ≤ 55 + length (v .text)
@@ -108,7 +91,7 @@ module _ (r : Row) (v : Fields) (s : T (slim r)) where
   around-few n m = by (r .last)
     where
       by : (b : Bool) → length (cond b (frontOf (r .rest) n m) (fieldBytes r v)) + length (cond b (fieldBytes r v ++ back (r .rest)) []) ≤ 66 + length (v .text)
-      by true = simp length-append (omega (arith, fields-few, front-few (r .rest) n m, back-few (r .rest)))
+      by true = simp length-append (omega (arith, fields-few, front-most (r .rest) n m, back-most (r .rest)))
       by false = omega (arith, fields-few)
 
   pub frame-few : (m : ℕ) → length (frameOf r m) ≤ 6

@@ -2,19 +2,17 @@
 -- Assumes nothing.
 use mathlib.Core.Path.{_≡_, refl, sym, ap, _∙_}
 use mathlib.Core.Bool.{Bool}
-use mathlib.Core.List.{List, [], _∷_, _++_, flatten, append-assoc, append-nil}
-use Prim.Native.Nat.{ℕ, _+_, _-_, _≤_, _<_}
+use mathlib.Core.List.{List, [], _∷_, flatten, append-assoc, append-nil}
+use Prim.Native.Nat.{ℕ, _+_, _≤_, _<_}
 use native.Mathlib.Omega.{arith}
 use lib.ListN.{length, take, drop, length-append}
-use lib.Seq.{take-at, drop-at}
 use borrow.Author.Tests.{eq-eqb, ne-eqb, lt-ltb, le-ltb}
 use Rattle.octets.specs.Bytes.{le}
 use Rattle.octets.specs.Filling.{Wrote, Parts, Writing, writing-start, writing-fits, wrote-length, lent}
 use Rattle.octets.specs.Reading.{Digits}
-use Rattle.sdt.specs.declared.Sdt.{Sdt}
 use Rattle.sdt.specs.Table.{opened, sealed}
 use Rattle.sdt.specs.TableLaws.{sealed-length}
-use Rattle.sdt.specs.Answer.{Sealed, header}
+use Rattle.sdt.specs.Answer.{header}
 use Rattle.sdt.specs.AnswerLaws.{header-length}
 use Rattle.term.specs.declared.Layout.{Layout}
 use Rattle.term.specs.File.{identity, layoutOf}
@@ -55,16 +53,6 @@ module _ {id : List ℕ} {p : Part} {first : List ℕ} (r : TableRoom id p first
   -- what was laid out lies in the output, and is a table's size
   pub table-size : {out : List ℕ} {n : ℕ} → Wrote (opened id (p .bytes)) first out n → (n ≡ 36 + length (p .bytes)) × (n ≤ length out)
   table-size w = let e = opened-length id (p .bytes) (r .own) in (omega (arith, w .count), omega (arith, w .count, r .fits, wrote-length (omega (arith, r .fits)) w))
-
--- ── The seal, over what was laid out
-pub sealed-over : {t : Sdt} {b bs out ys : List ℕ} {n : ℕ} → 10 ≤ n → Wrote bs b out n → Sealed (take (n - 0) out) t ys → Wrote (sealed bs) b (ys ++ drop (n - 0) out) n
-sealed-over {t} {b} {bs} {out} {ys} {n} h w d =
-    let f : take n out ≡ bs = rw (w .is) (take-at bs (drop (length bs) b) n (sym (w .count))) in
-    let g : drop n out ≡ drop n b = rw (w .is) (drop-at bs (drop (length bs) b) n (sym (w .count)) ∙ ap (λ (i : ℕ). drop i b) (sym (w .count))) in
-    let zero : n - 0 ≡ n = omega arith in
-    let d′ : Sealed bs t ys = rw (zero, f) at d in
-    let l : length (sealed bs) ≡ n = sealed-length bs (omega (arith, w .count)) ∙ sym (w .count) in
-    rw zero (record { count = sym l; is = rw (d′ .is, g, l) refl })
 
 -- ── The answer, by the figures
 module _ {p : Part} {records pool : List ℕ} {size n : ℕ} {deep : Bool} {next : ℕ} (m : Measured p records pool size n deep next) {k : ℕ} (e : k ≡ figuresNumber n deep size) where

@@ -15,6 +15,7 @@ use Rattle.descriptor.specs.Template.{endTag}
 use Rattle.grammar.specs.Kinds.{rowOf, rowIn}
 use Rattle.grammar.specs.Forest as forests
 use Rattle.grammar.specs.Forest.{Forest, nil, count, depth, Term, flatten}
+use Rattle.grammar.specs.ForestLaws.{count-most}
 use Rattle.tree.specs.Bytes.{termBytes, bytes}
 use Rattle.tree.specs.Normal.{integerTerm, bufferTerm, norm}
 
@@ -143,14 +144,9 @@ list-add f (suc m) n ts =
     let e : f ts .records + p .records + list f n (p .rest) .records ≡ f ts .records + (p .records + list f n (p .rest) .records) = omega arith in
     rw (suc-add m n, list-add f m n (f ts .rest), append-assoc, e, or-assoc (f ts .deep) (p .deep) (list f n (p .rest) .deep)) refl
 
-count-flatten : (f : Forest) → count f ≤ length (flatten f)
-unfolding count flatten
-count-flatten nil = omega arith
-count-flatten (forests.node k v c s) = simp length-append (omega (arith, count-flatten s))
-
 pub walk-all : (f : Forest) (l : ℕ) → depth f ≤ l
     → list (term l) (length (flatten f)) (flatten f) ≡ record { bytes = bytes f; records = length (flatten (norm f)); deep = below l (norm f); rest = [] }
 walk-all f l h =
     let w = rw append-nil at (walk-forest f l [] h) in
-    let e : length (flatten f) ≡ count f + (length (flatten f) - count f) = omega (arith, count-flatten f) in
+    let e : length (flatten f) ≡ count f + (length (flatten f) - count f) = omega (arith, count-most f) in
     rw (e, list-add (term l) (count f) _ (flatten f), w, list-nil, append-nil, or-false) (let z : length (flatten (norm f)) + 0 ≡ length (flatten (norm f)) = omega arith in rw z refl)

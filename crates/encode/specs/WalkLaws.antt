@@ -1,6 +1,6 @@
 -- How the code meets the walk: its equations at an index, the bound on what is written, and the loops over children.
 -- Assumes nothing.
-use mathlib.Core.Path.{_≡_, refl, sym, ap, subst, _∙_}
+use mathlib.Core.Path.{_≡_, refl, sym, subst, _∙_}
 use mathlib.Core.Bool.{Bool, true, false, _||_, cond}
 use mathlib.Core.List.{List, [], _∷_, _++_, map}
 use Prim.Native.Nat.{ℕ, zero, suc, _+_, _*_, _-_, _/_, _<_, _≤_}
@@ -15,7 +15,7 @@ use Rattle.grammar.specs.Forest.{Term}
 use Rattle.tree.specs.Bytes.{termBytes}
 use Rattle.term.specs.declared.Record.{Record}
 use Rattle.term.specs.Record.{recordAt, recordsOf, recordsFrom, textAt}
-use Rattle.term.specs.RecordLaws.{records-more, records-none}
+use Rattle.term.specs.RecordLaws.{records-more, records-none, records-length}
 use Rattle.checker.specs.Refusal.{textOf}
 use Rattle.checker.specs.Accepted.{termOf}
 use Rattle.encode.specs.Walk.{Part, nothing, list, isBuffer, recordsIn, deeper, node, term, or-assoc, or-false}
@@ -140,11 +140,6 @@ weighed pool h [] = omega arith
 weighed pool h (r ∷ rs) =
     let t : length (take (r .len) (drop (r .start) pool)) ≤ length pool = simp (length-take, length-drop) (omega arith) in
     omega (arith, weighed pool h rs)
-
-pub records-length : (b : List ℕ) (i n : ℕ) → length (recordsOf b i n) ≡ n
-unfolding recordsOf
-records-length b i zero = refl
-records-length b i (suc n) = ap suc (records-length b (suc i) n)
 
 pub terms-weighed : (records pool : List ℕ) (i : ℕ) → Small records pool → weight (termsFrom records pool i) ≤ 281474983002112
 unfolding termsFrom recordsFrom

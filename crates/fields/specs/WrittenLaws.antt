@@ -5,13 +5,13 @@ use mathlib.Core.Path.{_≡_, refl, _∙_, ap}
 use mathlib.Core.Bool.{Bool, true, false, _&&_, _||_, not}
 use mathlib.Core.Option.{some, Option·none-ne-some}
 use mathlib.Core.List.{List, [], _∷_, _++_, append-nil}
-use Prim.Native.Nat.{ℕ, zero, suc, _+_, _-_, _*_, _/_, _%_, _^_, _≤_, _<_}
+use Prim.Native.Nat.{ℕ, _+_, _-_, _*_, _/_, _%_, _^_, _≤_, _<_}
 use native.Mathlib.Omega.{arith}
 use native.Mathlib.Nat.{mul-le-mul-left, mul-add, mod-lt, mod-eq-of-lt, div-eq-of-lt, mod-add-div, add-mul-mod-self-left, add-mul-div-left}
 use lib.Dec.{T, T-not, eqb, ltb, leb, eqb→eq, ltb→lt, leb→le, le→leb}
 use lib.ListN.{length}
 use Rattle.octets.specs.Bytes.{Reader, _>>=_, need, every, le}
-use Rattle.octets.specs.Tests.{and-left, and-right, and-both, or-case, cond-false, cond-inv, took, gave, need-inv, need-true, not-equal}
+use Rattle.octets.specs.Tests.{and-left, and-right, and-both, or-case, cond-false, cond-inv, took, gave, need-inv, need-true, not-equal, positive}
 use Rattle.octets.specs.Exact.{Exact}
 use Rattle.octets.specs.Laws.{le-exact}
 use Rattle.octets.specs.Matches.{Matches, exact-matches, regood, recast, cut-matches, seq}
@@ -155,10 +155,6 @@ form-exact LengthX alimit xlimit w =
     x-exact LengthX alimit xlimit (pkg-length-exact false) (λ a. tt) (eqb→eq alimit 0 (and-left (eqb alimit 0) _ w)) λ x h. omega arith
 
 -- ── Texts
-positive : (b : ℕ) → T (not (eqb b 0)) → 1 ≤ b
-positive zero t = absurd t
-positive (suc b) t = omega arith
-
 string-back : (t rest : List ℕ) → T (every ascii t) → getString (t ++ (0 ∷ []) ++ rest) ≡ some (t, rest)
 unfolding getString every ascii _>>=_
 string-back [] rest h = refl

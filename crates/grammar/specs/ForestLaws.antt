@@ -3,8 +3,9 @@
 use mathlib.Core.Path.{_≡_, refl, _∙_, ap}
 use mathlib.Core.Option.{some, Option·none-ne-some, Option·some-injective}
 use mathlib.Core.List.{List, [], _∷_, _++_, append-assoc, append-nil}
-use Prim.Native.Nat.{ℕ, zero, suc}
-use lib.ListN.{length, drop}
+use Prim.Native.Nat.{ℕ, zero, suc, _≤_}
+use native.Mathlib.Omega.{arith}
+use lib.ListN.{length, drop, length-append}
 use lib.Seq.{drop-append-seam}
 use Rattle.octets.specs.Bytes.{_>>=_}
 use Rattle.octets.specs.Tests.{took₁, gave}
@@ -19,6 +20,11 @@ pub flatten-join : (f g : Forest) → flatten (join f g) ≡ flatten f ++ flatte
 unfolding join flatten
 flatten-join nil g = refl
 flatten-join (node k v c s) g = rw (flatten-join s g, append-assoc)
+
+pub count-most : (f : Forest) → count f ≤ length (flatten f)
+unfolding count flatten
+count-most nil = omega arith
+count-most (node k v c s) = omega (arith, count-most s, length-append (flatten c) (flatten s))
 
 pub split-join : (f g : Forest) → split (count f) (join f g) ≡ some (f, g)
 unfolding split count join _>>=_

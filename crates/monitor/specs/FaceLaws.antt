@@ -17,6 +17,7 @@ use Rattle.tree.specs.Normal.{norm}
 use Rattle.term.specs.declared.Record.{Record}
 use Rattle.term.specs.File.{recordCount, identity, layoutOf}
 use Rattle.term.specs.Record.{recordsFrom}
+use Rattle.term.specs.RecordLaws.{records-length}
 use Rattle.arity.specs.Arity.{Arity, aritiesFit}
 use Rattle.checker.specs.declared.Verdict.{Verdict}
 use Rattle.checker.specs.Refusal.{verdict, Owed, next, later, kidsOf, faultOf, scan, recordSection, aritySection, poolSection, refusalOf}
@@ -29,7 +30,6 @@ use Rattle.encode.specs.declared.Answer.{Answer}
 use Rattle.encode.specs.Encode.{tableOf, lateNumber, Outcome, refusedBy, handed, described, outcomeOf, encodeOf}
 use Rattle.encode.specs.Answer.{Answered}
 use Rattle.encode.specs.AcceptLaws.{layout-sized}
-use Rattle.encode.specs.WalkLaws.{records-length}
 use Rattle.whole.specs.Whole.{listOf, normaliseOf, identityOf, treeIn, readIn, readOf}
 use Rattle.monitor.specs.declared.AcpiAnswer.{AcpiAnswer}
 use Rattle.monitor.specs.declared.AcpiEdit.{AcpiEdit}

@@ -4,3 +4,4 @@ pub mod Writable
 pub mod SectionLaws
 pub mod FileLaws
 pub mod WritableLaws
+pub mod FewLaws

@@ -14,6 +14,7 @@ use Rattle.grammar.specs.declared.Row.{Row}
 use Rattle.grammar.specs.Kinds.{normalKinds, otherKinds, kinds, rowOf}
 use Rattle.grammar.specs.KindLaws.{everyRow, row-kind, rule}
 use Rattle.grammar.specs.Forest.{Fields, Forest, nil, node, count, flatten}
+use Rattle.grammar.specs.ForestLaws.{count-most}
 use Rattle.fields.specs.Fields.{numbersFit, inRange}
 use Rattle.tree.specs.Fits.{Args, fine, known, termFits, Fits}
 use Rattle.arity.specs.Arity.{Arity}
@@ -24,11 +25,6 @@ pub every-append : {A : Type 0} (P : A → Type 0) (l r : List A) → Every P l 
 unfolding Every
 every-append P [] r h k = k
 every-append P (a ∷ l) r h k = (h .0, every-append P l r (h .1) k)
-
-pub count-most : (f : Forest) → count f ≤ length (flatten f)
-unfolding count flatten
-count-most nil = omega arith
-count-most (node k v c s) = omega (arith, count-most s, length-append (flatten c) (flatten s))
 
 -- a rule of the table: kind and limits fit their fields
 unfoldable sized : Row → Bool

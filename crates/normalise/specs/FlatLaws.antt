@@ -14,12 +14,13 @@ use Rattle.descriptor.specs.Template.{endTag}
 use Rattle.grammar.specs.Forest.{Term, flatten}
 use Rattle.term.specs.declared.Record.{Record}
 use Rattle.term.specs.Record.{recordAt, recordsOf, recordsFrom, textAt}
+use Rattle.term.specs.RecordLaws.{records-length}
 use Rattle.checker.specs.Refusal.{textOf}
 use Rattle.checker.specs.Accepted.{termOf}
 use Rattle.normal.specs.File.{termTexts}
 use Rattle.normal.specs.SectionLaws.{texts-append}
 use Rattle.encode.specs.Walk.{list, term}
-use Rattle.encode.specs.WalkLaws.{termsFrom, terms-more, terms-none, terms-weighed, weight, list-within, term-within, list-fits, records-length, Small, Measured}
+use Rattle.encode.specs.WalkLaws.{termsFrom, terms-more, terms-none, terms-weighed, weight, list-within, term-within, list-fits, Small, Measured}
 use Rattle.normalise.specs.Flat.{integerRecords, bufferRecords, becomes, childrenOf, changes, onward, onward-rest, normalTerms, normal-enough}
 
 -- ── The text of what a record becomes, by the length of its own text and the size of its children

@@ -139,19 +139,29 @@ module _ (t : Sdt) (b new : List ℕ) (n : ℕ) {k : ℕ} (e : k ≡ sizeNumber 
   unfolding sized
   sized-is z = let (p, q) = size-zero e z in rw (le-ltb 268435455 n p, le-ltb (length b) n q) refl
 
--- bs was laid over b, and its n bytes were sealed
+-- ── bs was laid over b, and its n bytes were sealed
+sealed-part : {r : Sdt} {b bs out ys : List ℕ} {n : ℕ} → Wrote bs b out n → Sealed (take (n - 0) out) r ys → Sealed bs r ys
+sealed-part {b = b} {bs = bs} {out = out} {n = n} w d =
+    let f : take n out ≡ bs = rw (w .is) (take-at bs (drop (length bs) b) n (sym (w .count))) in
+    let zero : n - 0 ≡ n = omega arith in
+    rw (zero, f) at d
+
+pub sealed-over : {r : Sdt} {b bs out ys : List ℕ} {n : ℕ} → 10 ≤ n → Wrote bs b out n → Sealed (take (n - 0) out) r ys → Wrote (sealed bs) b (ys ++ drop (n - 0) out) n
+sealed-over {r} {b} {bs} {out} {ys} {n} h w d =
+    let g : drop n out ≡ drop n b = rw (w .is) (drop-at bs (drop (length bs) b) n (sym (w .count)) ∙ ap (λ (i : ℕ). drop i b) (sym (w .count))) in
+    let zero : n - 0 ≡ n = omega arith in
+    let l : length (sealed bs) ≡ n = sealed-length bs (omega (arith, w .count)) ∙ sym (w .count) in
+    rw zero (record { count = sym l; is = rw (sealed-part w d .is, g, l) refl })
+
 pub sized-done : (t : Sdt) {r : Sdt} {b bs out ys : List ℕ} {n k : ℕ} → k ≡ sizeNumber n (length b) → k ≡ 0 → 10 ≤ n → Wrote bs b out n → Sealed (take (n - 0) out) r ys → Left (record { number = k; table = r }) (ys ++ drop (n - 0) out) (sized n (sealed bs) t b)
 unfolding accepted
 sized-done t {r} {b} {bs} {out} {ys} {n} {k} e z h w d =
-    let f : take n out ≡ bs = rw (w .is) (take-at bs (drop (length bs) b) n (sym (w .count))) in
-    let g : drop n out ≡ drop n b = rw (w .is) (drop-at bs (drop (length bs) b) n (sym (w .count)) ∙ ap (λ (i : ℕ). drop i b) (sym (w .count))) in
-    let zero : n - 0 ≡ n = omega arith in
-    let d′ : Sealed bs r ys = rw (zero, f) at d in
-    let l : length (sealed bs) ≡ n = sealed-length bs (omega (arith, w .count)) ∙ sym (w .count) in
-    rw (zero, sized-is t b (sealed bs) n e z) (record {
+    let p = sealed-part w d in
+    let o = sealed-over h w d in
+    rw (sized-is t b (sealed bs) n e z) (record {
       number = z;
-      table = ap₂ {C = Sdt} (λ (x c : ℕ). record { length = x; checksum = c }) (d′ .length ∙ sym (w .count) ∙ sym l) (d′ .checksum);
-      is = rw (d′ .is, g, l) refl;
+      table = ap₂ {C = Sdt} (λ (x c : ℕ). record { length = x; checksum = c }) (p .length ∙ sym (w .count) ∙ o .count) (p .checksum);
+      is = o .is;
     })
 
 module _ (t : Sdt) (b : List ℕ) (e : sound t b ≡ true) where

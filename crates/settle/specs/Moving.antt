@@ -4,7 +4,7 @@
 use mathlib.Core.Path.{_≡_, refl, sym, _∙_, ap}
 use mathlib.Core.Bool.{Bool, true, false}
 use mathlib.Core.List.{List, [], _∷_, _++_, append-assoc}
-use Prim.Native.Nat.{ℕ, zero, suc, _+_, _-_, _*_, _/_, _≤_, _<_}
+use Prim.Native.Nat.{ℕ, suc, _+_, _-_, _*_, _/_, _≤_, _<_}
 use native.Mathlib.Omega.{arith}
 use native.Mathlib.Numerals.{add-one}
 use lib.Dec.{eqb, eqb-refl}
@@ -15,6 +15,7 @@ use Rattle.octets.specs.Filling.{Wrote, Filling, filling-start, filling-left, f
 use Rattle.path.specs.Path.{pathText}
 use Rattle.term.specs.declared.Record.{Record}
 use Rattle.term.specs.Record.{recordAt, recordsOf, textAt}
+use Rattle.term.specs.RecordLaws.{records-length}
 use Rattle.normal.specs.File.{startOf}
 use Rattle.normal.specs.Writable.{Every}
 use Rattle.repack.specs.Repack.{packed}
@@ -51,11 +52,6 @@ records-over : (b : List ℕ) (n j : ℕ) → n ≤ j → recordsOf b j (n - j) 
 unfolding recordsOf
 records-over b n j h = let e : n - j ≡ 0 = omega arith in rw e refl
 
-pub records-count : (b : List ℕ) (i n : ℕ) → length (recordsOf b i n) ≡ n
-unfolding recordsOf
-records-count b i zero = refl
-records-count b i (suc n) = ap suc (records-count b (suc i) n)
-
 pub moved-length : (at : ℕ) (rs : List Record) → length (moved at rs) ≡ 24 * length rs
 unfolding moved
 moved-length at [] = refl
@@ -74,7 +70,7 @@ moving-start {table} {n} {pool} {first} {out} g =
     let e : n - 0 ≡ n = omega arith in
     let f : first + 0 ≡ first = omega arith in
     let low : length (take pool out) ≡ pool = length-take-le pool out (omega (arith, g .room)) in
-    let rows : length (moved first (recordsOf out 0 n)) ≡ 24 * n = moved-length first (recordsOf out 0 n) ∙ ap (λ k. 24 * k) (records-count out 0 n) in
+    let rows : length (moved first (recordsOf out 0 n)) ≡ 24 * n = moved-length first (recordsOf out 0 n) ∙ ap (λ k. 24 * k) (records-length out 0 n) in
     record {
       given = g;
       each = rw e (g .each);
@@ -93,7 +89,7 @@ module _ {table : List ℕ} {n pool first : ℕ} {before : List ℕ} {at j : ℕ
       let o = records-over before n j p in
       let f = filling-end (rw o at (h .front)) (omega arith) in
       let k = filling-end (rw o at (h .back)) (omega arith) in
-      let rows : length (moved first (recordsOf before 0 n)) ≡ 24 * n = moved-length first (recordsOf before 0 n) ∙ ap (λ m. 24 * m) (records-count before 0 n) in
+      let rows : length (moved first (recordsOf before 0 n)) ≡ 24 * n = moved-length first (recordsOf before 0 n) ∙ ap (λ m. 24 * m) (records-length before 0 n) in
       let e : 24 * n + (pool - 24 * n) ≡ pool = omega (arith, h .given .front) in
       let gap : drop (24 * n) (take pool before) ≡ take (pool - 24 * n) (drop (24 * n) before) =
       ap (λ m. drop (24 * n) (take m before)) (sym e) ∙ drop-front (24 * n) (pool - 24 * n) before (omega (arith, h .given .front, h .given .room)) in

@@ -10,6 +10,7 @@ use lib.ListN.{length, take, drop, length-append, length-drop}
 use lib.Seq.{drop-drop, drop-at}
 use Rattle.octets.specs.Bytes.{laid}
 use Rattle.octets.specs.Tests.{and-left, and-right}
+use Rattle.octets.specs.Laws.{no-bytes}
 use Rattle.path.specs.Path.{pathText}
 use Rattle.path.specs.PathCode.{path-text-back}
 use Rattle.grammar.specs.declared.Text.{Text}
@@ -28,22 +29,18 @@ use Rattle.normal.specs.File.{startOf, recordsBytes, termTexts}
 use Rattle.normal.specs.SectionLaws.{recordOf, record-length, record-back, next-entry}
 use Rattle.normal.specs.Stands.{Stands, stands-in, stands-left, stands-part}
 use Rattle.normal.specs.Writable.{Every, TermSizes}
+use Rattle.normal.specs.FewLaws.{text-most}
 use Rattle.repack.specs.Repack.{packed}
 use Rattle.repack.specs.PackLaws.{record-packed}
 use Rattle.walk.specs.Calls.{isPathText}
-use Rattle.walk.specs.Few.{text-most}
 use Rattle.walk.specs.Spots.{Spot, spotBytes, spotsBytes, termsOf, Sits, spliced, Left, spots-length, spots-count}
 use Rattle.settle.specs.Settle.{hasPath, fetched, fetchedAll, placed, moved, settled, AsLong, Settling}
 
 -- ── A text, by its form
-no-text : (t : List ℕ) → length t ≡ 0 → t ≡ []
-no-text [] e = refl
-no-text (b ∷ t) e = absurd (omega arith)
-
 text-fetched : (y : Text) (kind k : ℕ) (v : Fields) {b : List ℕ} {at : ℕ} → T (readableText y) → T (textFits y kind (v .text) (v .a) (v .x)) → T (textSpelled y kind (v .text))
     → Stands b at (textBytes y k v) → cond (isPathText y) (pathText (drop at b)) (textAt b at (length (v .text))) ≡ v .text
 unfolding readableText textFits textSpelled textBytes isPathText textAt
-text-fetched Unused kind k v r f s h = rw (no-text (v .text) (eqb→eq (length (v .text)) 0 f)) refl
+text-fetched Unused kind k v r f s h = rw (no-bytes (v .text) (eqb→eq (length (v .text)) 0 f)) refl
 text-fetched PathText kind k v {b} {at} r f s h = path-text-back b at (v .text) (h .rest) s (h .within) (h .is)
 text-fetched SegmentText kind k v r f s h = stands-part (v .text) _ refl h
 text-fetched Ascii kind k v r f s h = stands-part (v .text) _ refl (stands-left (v .text) (0 ∷ []) h)

@@ -1,6 +1,6 @@
 -- How the code meets the records: at an index there is one and the rest, or none; and where a text lies. Assumes nothing.
-use mathlib.Core.Path.{_≡_, refl, sym, _∙_}
-use Prim.Native.Nat.{ℕ, suc, _+_, _-_, _*_, _/_, _%_, _<_, _≤_}
+use mathlib.Core.Path.{_≡_, refl, sym, ap, _∙_}
+use Prim.Native.Nat.{ℕ, zero, suc, _+_, _-_, _*_, _/_, _%_, _<_, _≤_}
 use mathlib.Core.List.{List, [], _∷_}
 use native.Mathlib.Omega.{arith}
 use native.Mathlib.Numerals.{add-one}
@@ -22,6 +22,11 @@ records-more b i h = rw add-one (step b i (length b / 24 - i) (length b / 24 - s
 pub records-none : (b : List ℕ) (i : ℕ) → length b / 24 ≤ i → recordsFrom b i ≡ []
 unfolding recordsFrom recordsOf
 records-none b i h = let e : length b / 24 - i ≡ 0 = omega arith in rw e
+
+pub records-length : (b : List ℕ) (i n : ℕ) → length (recordsOf b i n) ≡ n
+unfolding recordsOf
+records-length b i zero = refl
+records-length b i (suc n) = ap suc (records-length b (suc i) n)
 
 pub record-made : (b : List ℕ) (i : ℕ) {k a n x s l : ℕ} → k ≡ leAt 2 b (24 * i) → a ≡ leAt 2 b (24 * i + 2) → n ≡ leAt 4 b (24 * i + 4)
     → x ≡ leAt 8 b (24 * i + 8) → s ≡ leAt 4 b (24 * i + 16) → l ≡ leAt 4 b (24 * i + 20)

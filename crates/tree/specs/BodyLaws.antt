@@ -11,7 +11,7 @@ use lib.Dec.{T, eqb, leb, eqb→eq, leb→le, le→leb}
 use lib.ListN.{length, length-append}
 use Rattle.octets.specs.Bytes.{Reader, _>>=_, need, cut, getLe}
 use Rattle.octets.specs.Tests.{and-left, and-right, took, gave, need-inv, need-true}
-use Rattle.octets.specs.Laws.{cut-back, cut-only, le-exact}
+use Rattle.octets.specs.Laws.{no-bytes, cut-back, cut-only, le-exact}
 use Rattle.number.specs.PkgLength.{largest, getPkgLength}
 use Rattle.number.specs.PkgLengthLaws.{pkg-length-exact}
 use Rattle.grammar.specs.declared.Place.{Place}
@@ -33,9 +33,10 @@ use Rattle.fields.specs.WrittenLaws.{readable, endsFields, fields-exact}
 unfoldable pub roomFor : Bool → List ℕ → Bool
 roomFor x bs = not x || leb (length bs) (largest true)
 
-no-bytes : (bs : List ℕ) → length bs ≡ 0 → bs ≡ []
-no-bytes [] h = refl
-no-bytes (b ∷ bs) h = let z : ⊥ = omega arith in absurd z
+pub box-least : (x : Bool) (bs : List ℕ) → length bs ≤ length (box x bs)
+unfolding box
+box-least true bs = simp length-append (omega arith)
+box-least false bs = omega arith
 
 module _ (e : Bool) (put : Body → List ℕ) (get : Reader Body) (good : Body → Type 0) (X : Matches e put get good) where
   box-back : (b : Body) (r : List ℕ) → T (roomFor true (put b)) → good b → unbox true get (box true (put b) ++ r) ≡ some (b, r)

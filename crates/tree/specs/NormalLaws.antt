@@ -5,13 +5,13 @@ use mathlib.Core.Path.{_≡_, refl, _∙_, ap, ap₂}
 use mathlib.Core.Bool.{Bool, true, false, _&&_, _||_, not}
 use mathlib.Core.Option.{Option, none, some}
 use mathlib.Core.List.{List, [], _++_, append-nil}
-use Prim.Native.Nat.{ℕ, zero, suc, _+_, _-_, _≤_, _<_, _^_}
+use Prim.Native.Nat.{ℕ, suc, _+_, _-_, _≤_, _<_, _^_}
 use native.Mathlib.Omega.{arith}
 use borrow.Author.Tests.{le-leb}
 use lib.Dec.{T, T-not, eqb, ltb, leb, leb·suc-zero, eqb→eq, leb→le, le→leb}
 use lib.ListN.{length, length-append}
 use Rattle.octets.specs.Bytes.{le}
-use Rattle.octets.specs.Tests.{and-left, and-right, and-both, or-case, or-left, test-true, cond-false, cond-case, not-equal}
+use Rattle.octets.specs.Tests.{and-left, and-right, and-both, or-case, or-left, test-true, cond-false, cond-case, not-equal, positive}
 use Rattle.number.specs.Integer.{integer}
 use Rattle.number.specs.PkgLength.{largest}
 use Rattle.number.specs.Buffer.{boxed, buffer}
@@ -118,10 +118,6 @@ module _ (args : Args) (p : Place) (l k : ℕ) (v : Fields) (n : ℕ) (t : T (te
   has-level : 1 ≤ l
   unfolding fine
   has-level = let t = is-fine in let u : T (not (eqb l 0)) = search (and-left, and-right) in positive l u
-    where
-      positive : (m : ℕ) → T (not (eqb m 0)) → 1 ≤ m
-      positive zero u = absurd u
-      positive (suc m) u = omega arith
 
 pub norm-depth : (args : Args) (place : ℕ → Place) (l j : ℕ) (f : Forest) → Fits args place l j f → depth f ≤ l
 unfolding Fits depth

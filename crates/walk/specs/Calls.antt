@@ -7,6 +7,7 @@ use mathlib.Core.List.{List}
 use Prim.Native.Nat.{ℕ, _+_, _-_, _/_, _%_}
 use lib.Dec.{T, leb, eqb→eq}
 use lib.ListN.{length, drop}
+use borrow.Author.Tests.{not-true, not-false}
 use Rattle.octets.specs.Bytes.{Reader, _>>=_, need, every, cut, value, getLe}
 use Rattle.octets.specs.Reading.{Got}
 use Rattle.octets.specs.Tests.{and-left, and-right, took, gave, need-inv}
@@ -31,21 +32,13 @@ use Rattle.taken.specs.Standing.{took-path}
 use Rattle.walk.specs.Walk.{isCall}
 
 -- ── What the code answers
-not-is : (c : Bool) → not c ≡ true → c ≡ false
-not-is true h = absurd (true≢false (sym h))
-not-is false h = refl
-
-is-not : (c : Bool) → not c ≡ false → c ≡ true
-is-not true h = refl
-is-not false h = absurd (true≢false h)
-
 module _ (t : Rest) {c : Bool} (e : c ≡ isCall t) where
   pub calls-is : not c ≡ false → isCall t ≡ true
-  calls-is h = sym e ∙ is-not c h
+  calls-is h = sym e ∙ not-false c h
 
   module _ (p : Place) (args : ℕ) where
     pub calls-not : not c ≡ true → 0 ≡ cond (isCall t) (argsAt p args) 0
-    calls-not h = rw (sym e ∙ not-is c h) refl
+    calls-not h = rw (sym e ∙ not-true c h) refl
 
     pub calls-all : not c ≡ false → {n : ℕ} → n ≡ argsAt p args → n ≡ cond (isCall t) (argsAt p args) 0
     calls-all h k = rw (calls-is h) k

@@ -18,9 +18,10 @@ use Rattle.tree.specs.Normal.{isNormal}
 use Rattle.normal.specs.File.{recordBytes}
 use Rattle.normal.specs.SectionLaws.{record-length}
 use Rattle.normal.specs.Stands.{Stands}
+use Rattle.normal.specs.Writable.{Every}
+use Rattle.normal.specs.WritableLaws.{every-append}
 use Rattle.repack.specs.Repack.{packed}
 use Rattle.repack.specs.PackLaws.{packed-length}
-use Rattle.normal.specs.Writable.{Every}
 
 -- ── A term, and where its text stands
 pub record Spot : Type 0 where
@@ -152,11 +153,6 @@ spots-append : (l m : List Spot) → spotsBytes (l ++ m) ≡ spotsBytes l ++ spo
 unfolding spotsBytes
 spots-append [] m = refl
 spots-append (s ∷ l) m = rw (spots-append l m, append-assoc (spotBytes s) (spotsBytes l) (spotsBytes m)) refl
-
-every-append : {A : Type 0} (P : A → Type 0) (l m : List A) → Every P l → Every P m → Every P (l ++ m)
-unfolding Every
-every-append P [] m h k = k
-every-append P (a ∷ l) m h k = (h .0, every-append P l m (h .1) k)
 
 pub left-none : (b : List ℕ) (i : ℕ) (first : List ℕ) → Left [] b i first first
 unfolding Every spotsBytes

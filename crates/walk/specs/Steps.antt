@@ -12,6 +12,7 @@ use lib.ListN.{length, take, drop, length-append, length-drop}
 use lib.Seq.{drop-drop, take-length, length-take-le}
 use borrow.Author.Tests.{eqb-true}
 use Rattle.octets.specs.Bytes.{Reader, _>>=_, need}
+use Rattle.octets.specs.Tests.{and-all}
 use Rattle.grammar.specs.declared.Place.{Place}
 use Rattle.grammar.specs.declared.Rest.{Rest}
 use Rattle.grammar.specs.declared.Rest.the-variants.{Nothing, Arity, Listed, Counted, Measured}
@@ -28,9 +29,9 @@ use Rattle.start.specs.Start.{Begins}
 use Rattle.start.specs.StartLaws.{read-here}
 use Rattle.start.specs.Box.{Opened}
 use Rattle.normal.specs.File.{recordBytes, termTexts}
+use Rattle.normal.specs.FewLaws.{text-most}
 use Rattle.walk.specs.declared.Walk.{Walk}
 use Rattle.walk.specs.Spots.{Sits, Left, left-node, left-wider, spliced}
-use Rattle.walk.specs.Few.{text-most}
 use Rattle.walk.specs.Loop.{same-end}
 use Rattle.walk.specs.Walk.{tree, bodyOf, forest, Reached, Walks, Spans, several, isListed, getNumber}
 
@@ -48,10 +49,6 @@ many-is g r args Measured bs = refl
 unfoldable pub onlyIf : Bool → Walk → Walk
 onlyIf c w = record { ok = w .ok && c; records = w .records; texts = w .texts; kids = w .kids; next = w .next }
 
-and-true : (a b : Bool) → a && b ≡ true → (a ≡ true) × (b ≡ true)
-and-true true b e = (refl, e)
-and-true false b e = absurd (true≢false (sym e))
-
 module _ (g : Place → Reader Tree) (r : Row) (args : ℕ) (b : List ℕ) (at : ℕ) where
   -- no number
   pub kids-none : {i : ℕ} {first : List ℕ} {w : Walk} → w .ok ≡ false → getNumber (r .rest) (r .operands) args (drop at b) ≡ none
@@ -68,7 +65,7 @@ module _ (g : Place → Reader Tree) (r : Row) (args : ℕ) (b : List ℕ) (at :
       let m : getMany g r args (r .rest) (drop at b) ≡ several (isListed (r .rest)) g (childPlace r) n 0 (drop start b) = many-is g r args (r .rest) (drop at b) ∙ rw e refl in
       rw z (record {
         good = λ y.
-            let (y₁, y₂) = and-true (w .ok) c y in
+            let (y₁, y₂) = and-all (w .ok) c y in
             let f = k .good y₁ in
             let u : counts (r .rest) (r .operands) args (count (f .value)) ≡ true = ap (counts (r .rest) (r .operands) args) (sym (f .kids)) ∙ sym q ∙ y₂ in
             record { value = f .value; is = rw (m, f .is, u) refl; records = f .records; texts = f .texts; kids = f .kids; low = omega (arith, f .low); high = f .high; left = f .left };
@@ -86,7 +83,7 @@ module _ (g : Place → Reader Tree) (r : Row) (args : ℕ) (b : List ℕ) (at :
 
   pub kids-spans : {start : ℕ} {w v : Walk} {c : Bool} → at ≤ start → Spans start w → c ≡ counts (r .rest) (r .operands) args (w .kids) → v ≡ onlyIf c w → Spans at v
   unfolding onlyIf
-  kids-spans {w = w} {c = c} l s q z = rw z (record { few = λ y. omega (arith, s .few (and-true (w .ok) c y .0)); short = λ y. omega (arith, s .short (and-true (w .ok) c y .0)) })
+  kids-spans {w = w} {c = c} l s q z = rw z (record { few = λ y. omega (arith, s .few (and-all (w .ok) c y .0)); short = λ y. omega (arith, s .short (and-all (w .ok) c y .0)) })
 
 -- ── A body: fields, and children
 -- where the text of what was read stands
@@ -244,7 +241,7 @@ module _ (args : Args) (l : ℕ) (p : Place) {r : Row} (b : List ℕ) (at : ℕ)
     unfolding onlyIf
     term-opened d z =
         rw (z, d) (record {
-          good = λ y. let (y₁, y₂) = and-true (w .ok) (not (r .boxed) || eqb (w .next) end) y in
+          good = λ y. let (y₁, y₂) = and-all (w .ok) (not (r .boxed) || eqb (w .next) end) y in
               let f = term-reached y₁ y₂ in
               record { value = f .value; is = f .is; records = f .records; texts = f .texts; kids = f .kids; low = f .low; high = f .high; left = f .left };
           bad = λ y. term-bad (w .ok) refl y;

@@ -4,7 +4,7 @@
 use mathlib.Core.Path.{_≡_, refl}
 use mathlib.Core.Bool.{Bool, true, false, _&&_, not, cond}
 use mathlib.Core.List.{List, []}
-use Prim.Native.Nat.{ℕ, _+_, _-_, _≤_}
+use Prim.Native.Nat.{ℕ, _+_, _≤_}
 use native.Mathlib.Omega.{arith}
 use lib.Dec.{T, eqb, leb, ltb, leb→le}
 use lib.ListN.{length, drop, length-take, length-drop}
@@ -25,11 +25,11 @@ use Rattle.checker.specs.Accepted.{accepted-forest}
 use Rattle.normal.specs.File.{fileOf}
 use Rattle.normal.specs.Writable.{Writable}
 use Rattle.normal.specs.WritableLaws.{fits-writable}
+use Rattle.normal.specs.FewLaws.{few-forest}
 use Rattle.normal.specs.FileLaws.{file-identity, file-forest, file-arities, file-accepted}
 use Rattle.encode.specs.Encode.{tableOf, lateNumber, handed, described, outcomeOf, encodeOf}
 use Rattle.whole.specs.Whole.{listOf, treeOf, tableFor, normalFor, Accepted, normaliseOf}
 use Rattle.whole.specs.ListLaws.{Listed, sizes, texts-short, layout-room, listed}
-use Rattle.whole.specs.TextLaws.{texts-most}
 
 -- ── A forest that a table can be made of, with this arity list
 pub record Sound (l : List Arity) (g : Forest) : Type 0 where
@@ -103,7 +103,7 @@ module _ (f : List ℕ) (a : Accepted f) where
 pub sound-writable : (id : List ℕ) (l : List Arity) (g : Forest) → length id ≡ 31 → Listed l → Sound l g → Writable id l g
 sound-writable id l g i h s =
     fits-writable id l (argsIn l) (λ _. InList) 64 0 g i (h .few) (s .few) (sizes l (h .each)) (s .fits)
-    (omega (arith, texts-short l (h .each), h .few, texts-most (argsIn l) (λ _. InList) 64 0 g (s .fits) (s .normal), s .size))
+    (omega (arith, texts-short l (h .each), h .few, few-forest (argsIn l) (λ _. InList) 64 0 g (s .fits) (s .normal) .texts, s .size))
 
 pub accepted-writable : (f : List ℕ) → Accepted f → Writable (identity f) (listOf f) (norm (treeOf f))
 accepted-writable f a = sound-writable (identity f) (listOf f) (norm (treeOf f)) (accepted-identity f a) (accepted-list f a) (accepted-sound f a)

@@ -1,7 +1,8 @@
 -- `encode::put_table` meets its contract: what was laid out is sealed. Assumes nothing.
 use native.Mathlib.Omega.{arith}
 use lib.ListN.{length-take}
-use Rattle.encode.specs.TableLaws.{table-size, sealed-over}
+use Rattle.encode.specs.TableLaws.{table-size}
+use Rattle.sdt.specs.AnswerLaws.{sealed-over}
 use borrow.Author.Needs.{needs}
 use Rattle.encode.proofs.put_table.Statement.{statement}
 use Rattle.encode.proofs.put_table.Tie as tie
