@@ -154,7 +154,7 @@ fn size_of(records: &[u8], pool: &[u8], i: usize, levels: usize, kept: &mut [u64
     }
 }
 
-// The n children of record i.
+// The n children of record i. A term without children, as most are, costs no call and is not kept.
 fn kids_of(records: &[u8], pool: &[u8], n: u64, i: usize, levels: usize, kept: &mut [u64]) -> Sized
     requires { ⌜ Sound (now records) (now pool) × Parent (now records) levels i n × Kept (now records) (now pool) (now kept) ⌝ }
     ensures { λ s. ⌜ Measured (list (term (levels - 1)) n (termsFrom (now (records .entry)) (now (pool .entry)) (i + 1))) (now (records .entry)) (now (pool .entry)) (s .size) (s .records) (s .deep) (s .next) × Kept (now (records .entry)) (now (pool .entry)) (now (kept .exit)) ⌝ }
@@ -332,6 +332,7 @@ fn write_node(
     }
 }
 
+// n children from record i on. A term without children, as most are, costs no call.
 fn write_kids(
     records: &[u8],
     pool: &[u8],
@@ -374,6 +375,7 @@ fn write_in(
     Done { size: at, next }
 }
 
+// n terms from record i on, for whoever has nothing measured.
 pub fn write_list(
     records: &[u8],
     pool: &[u8],
