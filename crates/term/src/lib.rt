@@ -94,7 +94,7 @@ pub fn lay_out(file: &[u8]) -> Layout
 
 // ── Records and texts
 
-// Record i of the section b, read as three numbers of eight bytes and taken apart: three loads instead of twenty-four.
+// Record i of the section b, read as three numbers of eight bytes and taken apart: fewer loads than byte by byte.
 pub fn record_at(b: &[u8], i: usize) -> Record
     requires { ⌜ i < length (now b) / 24 ⌝ }
     ensures { λ r. ⌜ r ≡ recordAt (now (b .entry)) i ⌝ }
