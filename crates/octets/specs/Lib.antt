@@ -3,6 +3,7 @@ pub mod Tests
 pub mod Exact
 pub mod Laws
 pub mod Filling
+pub mod Known
 pub mod Reading
 pub mod Sum
 pub mod Matches

@@ -14,7 +14,7 @@ use lib.ListN.{length, take, drop, length-append, length-drop}
 use lib.Seq.{drop-drop, drop-append-seam}
 use Rattle.octets.specs.Bytes.{_>>=_, le}
 use Rattle.octets.specs.Tests.{and-left, and-right, took, gave}
-use Rattle.octets.specs.Filling.{Wrote, Filling, lent, returned, filling-start, filling-lent, filling-end}
+use Rattle.octets.specs.Filling.{Parts, parts₂, parts₃, Wrote, Filling, lent, returned, filling-start, filling-lent, filling-end}
 use Rattle.octets.specs.Reading.{Got}
 use Rattle.path.specs.Path.{Path, segment, segments, joined, rootOf, textOf, isPath, countBytes, bytesOf, pathBytes, getPath, getPathText, getPathLength, pathText}
 use Rattle.path.specs.PathLaws.{segment-length, fours, flat-length, joined-length, rootSize, partCount, Measured, path-parts, path-text-length, PathRead, path-read}
@@ -129,6 +129,10 @@ module _ (t : List ℕ) (h : T (isPath t)) {k : ℕ} (is : k ≡ rootSize t) whe
       let n : (length t - k + 1) / 5 ≡ length (p .parts) = omega (arith, m .text, m .least) in
       q ∙ rw (e₀, e₁, e₂, n, ← (spelled-parts (p .parts) s (m .least)))
 
+  -- the same, as three writers in a row have it
+  pub path-in-parts : Parts (pathBytes t) (take (k - 0) t ∷ countBytes ((length t - k + 1) / 5) ∷ strung 1 0 ((length t - k + 1) / 5) (drop k t) ∷ [])
+  path-in-parts = parts₃ path-spelled
+
 -- ── Text from the bytes at `at`, of which k are the root mark: its length v and its end `next` say where its n segments stand
 pub record TextAt (b : List ℕ) (at k v next n : ℕ) : Type 0 where
   pub text : pathText (drop at b) ≡ take (at + k - at) (drop at b) ++ strung 0 1 n (drop (next - 4 * n) b)
@@ -180,6 +184,10 @@ text-at {b} {at} {v} {next} {k} g is =
     let (e, f) = gave h₂ in
     let (e₁, f₁) = gave h₄ in
     text-stands b at next p (rw (f₁ ∙ f) at (path-read (drop at b) p z h₃)) is (g .low) (g .high) (sym e ∙ ap length (sym e₁)) (rw h₃ refl)
+
+-- the text as two writers in a row have it
+pub text-in-parts : {b : List ℕ} {at k v next n : ℕ} → TextAt b at k v next n → Parts (pathText (drop at b)) (take (at + k - at) (drop at b) ∷ strung 0 1 n (drop (next - 4 * n) b) ∷ [])
+text-in-parts h = parts₂ (h .text)
 
 -- nothing is written where no path stands
 pub no-text : (bs : List ℕ) {out : List ℕ} → getPathLength bs ≡ none → Wrote (pathText bs) out out 0

@@ -8,8 +8,9 @@ use Rattle.term.specs.Record.{recordsFrom}
 use Rattle.checker.specs.Walk.{check, kids}
 use Rattle.checker.specs.WalkLaws.{told-end, told-fault, some-level, told-kids, Going, going-start, going-end, going-bad, going-turn}
 use Rattle.checker.specs.FaultLaws.{fault-unknown, fault-known}
-use borrow.Fn.Kinds.{In}
+use borrow.Fn.Kinds.{In, Out}
 use borrow.Fn.PlainCycle.{Measures, is, falls, and}
+use Rattle.octets.specs.Known.{Known, known}
 use Rattle.checker.proofs.check_kids.Reads as check-kids
 use Rattle.checker.proofs.check_kids.Kinds as check-kids-kinds
 use Rattle.checker.proofs.+check_kids+check_term.Lts-check_kids as check-kids-lts
@@ -53,6 +54,19 @@ check-kids-Inv-loop records arities pool row n i levels j₀ next₀ j next =
 abbrev check-kids-μ-loop : check-kids-lts.MeasureT-loop
 check-kids-μ-loop records arities pool row n i levels j₀ next₀ j next = n - j
 
+-- what is known at the places of `check_term`
+module _ (t : ℕ) where
+  abbrev check-term-claims : check-term-lts.Claims
+  check-term-claims = (record-at-reads.Asked, record-at-reads.Learnt, position-of-reads.Asked, position-of-reads.Learnt, row-at-reads.Asked, row-at-reads.Learnt, fault-of-reads.Asked, fault-of-reads.Learnt, check-kids-below t, check-kids.Post)
+
+  abbrev At-check-term : (check-term-lts.Claims → In 3 check-term-kinds.ps → Out 3 check-term-kinds.ps check-term-kinds.r → Type 0) → Type 0
+  At-check-term Place = Place check-term-claims (check-term-at t) check-term.Post
+
+  abbrev check-term-fault-known₁ : At-check-term check-term-lts.After-fault-of → Known
+  check-term-fault-known₁ c =
+      let at-start = c .before .before .before .before .before .before .before .before .before in
+      known (fault-known (at-start .args .arities .now) (at-start .args .pool .now) (at-start .args .place) (at-start .args .levels) (c .before .before .before .before .record-at .result) (row-known _ _ (c .before .before .before .position-of .ensures) (c .before .before .if2 .left) (c .before .row-at .ensures)) (c .fault-of .ensures))
+
 pub +check-kids+check-term-spec : {M : Type 1} → statement M
 +check-kids+check-term-spec = close μ-check-kids μ-check-term (λ t. check-kids-lts.spec (
   child-place-reads.Asked,
@@ -67,34 +81,23 @@ pub +check-kids+check-term-spec : {M : Type 1} → statement M
     (λ c. going-start _ _ _ _ _)  -- check-kids-loop-holds
     (λ c κs. search needs)  -- check-kids-child-place-requires
     (λ c κs. (omega arith, search needs))  -- check-kids-check-term-requires
-    (λ c. going-bad (c .before .before .before .before .before .loop .inv) (c .before .before .before .before .loop-test .taken) (c .before .before .before .child-place .ensures) (c .before .before .check-term .ensures) (c .if1 .taken))  -- check-kids-returns
+    (λ c. let at-check-term = c .before .before in let at-child-place = at-check-term .before in let at-loop = at-child-place .before .before in going-bad (at-loop .loop .inv) (search) (at-child-place .child-place .ensures) (at-check-term .check-term .ensures) (c .if1 .taken))  -- check-kids-returns
     (λ c. search needs)  -- check-kids-add-j
     (λ c. omega arith)  -- check-kids-loop-less
-    (λ c. going-turn (c .before .before .before .before .before .loop .inv) (c .before .before .before .before .loop-test .taken) (c .before .before .before .child-place .ensures) (c .before .before .check-term .ensures) (c .if1 .left))  -- check-kids-loop-again
+    (λ c. let at-check-term = c .before .before in let at-child-place = at-check-term .before in let at-loop = at-child-place .before .before in going-turn (at-loop .loop .inv) (search) (at-child-place .child-place .ensures) (at-check-term .check-term .ensures) (c .if1 .left))  -- check-kids-loop-again
     (λ c. going-end (c .before .loop .inv) (c .loop-test .left))  -- check-kids-returns-2
     )
-    λ t. check-term-lts.spec (
-      record-at-reads.Asked,
-      record-at-reads.Learnt,
-      position-of-reads.Asked,
-      position-of-reads.Learnt,
-      row-at-reads.Asked,
-      row-at-reads.Learnt,
-      fault-of-reads.Asked,
-      fault-of-reads.Learnt,
-      check-kids-below t,
-      check-kids.Post,
-    )
+    λ t. check-term-lts.spec (check-term-claims t)
     (check-term-at t)
     check-term.Post
-    (λ c. told-end (c .before .before .before .before .args .arities .now) (c .before .before .before .before .args .pool .now) (c .before .before .before .before .args .records .now) (c .before .before .before .before .args .levels) (c .before .before .before .before .args .place) (c .before .before .before .before .args .i) (c .if1 .taken))  -- check-term-returns
+    (λ c. let at-start : At-check-term t check-term-lts.Start = search in told-end (at-start .args .arities .now) (at-start .args .pool .now) (at-start .args .records .now) (at-start .args .levels) (at-start .args .place) (at-start .args .i) (c .if1 .taken))  -- check-term-returns
     (λ c κs. search needs)  -- check-term-record-at-requires
     (λ c κs. search needs)  -- check-term-position-of-requires
-    (λ c. told-fault (c .before .before .before .before .before .before .before .args .arities .now) (c .before .before .before .before .before .before .before .args .pool .now) (c .before .before .before .before .before .before .before .args .records .now) (c .before .before .before .before .before .before .before .args .levels) (c .before .before .before .before .before .before .before .args .place) (c .before .before .before .before .before .before .before .args .i) (c .before .before .before .if1 .left) (c .before .before .record-at .ensures) (fault-unknown (c .before .before .before .before .before .before .before .args .arities .now) (c .before .before .before .before .before .before .before .args .pool .now) (c .before .before .before .before .before .before .before .args .place) (c .before .before .before .before .before .before .before .args .levels) (c .before .before .record-at .result) (row-unknown _ _ (c .before .position-of .ensures) (c .if2 .taken))) (λ z. omega arith))  -- check-term-returns-2
+    (λ c. let at-record-at = c .before .before in let at-start = at-record-at .before .before .before .before .before in told-fault (at-start .args .arities .now) (at-start .args .pool .now) (at-start .args .records .now) (at-start .args .levels) (at-start .args .place) (at-start .args .i) (search) (at-record-at .record-at .ensures) (fault-unknown (at-start .args .arities .now) (at-start .args .pool .now) (at-start .args .place) (at-start .args .levels) (at-record-at .record-at .result) (row-unknown _ _ (c .before .position-of .ensures) (c .if2 .taken))) (λ z. omega arith))  -- check-term-returns-2
     (λ c κs. search needs)  -- check-term-row-at-requires
     (λ c κs. search needs)  -- check-term-fault-of-requires
-    (λ c. told-fault (c .before .before .before .before .before .before .before .before .before .before .args .arities .now) (c .before .before .before .before .before .before .before .before .before .before .args .pool .now) (c .before .before .before .before .before .before .before .before .before .before .args .records .now) (c .before .before .before .before .before .before .before .before .before .before .args .levels) (c .before .before .before .before .before .before .before .before .before .before .args .place) (c .before .before .before .before .before .before .before .before .before .before .args .i) (c .before .before .before .before .before .before .if1 .left) (c .before .before .before .before .before .record-at .ensures) (fault-known (c .before .before .before .before .before .before .before .before .before .before .args .arities .now) (c .before .before .before .before .before .before .before .before .before .before .args .pool .now) (c .before .before .before .before .before .before .before .before .before .before .args .place) (c .before .before .before .before .before .before .before .before .before .before .args .levels) (c .before .before .before .before .before .record-at .result) (row-known _ _ (c .before .before .before .before .position-of .ensures) (c .before .before .before .if2 .left) (c .before .before .row-at .ensures)) (c .before .fault-of .ensures)) (c .if3 .taken))  -- check-term-returns-3
+    (λ c. let at-record-at = c .before .before .before .before .before in let at-start = at-record-at .before .before .before .before .before in told-fault (at-start .args .arities .now) (at-start .args .pool .now) (at-start .args .records .now) (at-start .args .levels) (at-start .args .place) (at-start .args .i) (search) (at-record-at .record-at .ensures) (check-term-fault-known₁ t (c .before) .holds) (c .if3 .taken))  -- check-term-returns-3
     (λ c. search needs)  -- check-term-add-check-kids
-    (λ c. omega (arith, some-level (c .before .before .before .before .before .before .before .before .before .before .args .arities .now) (c .before .before .before .before .before .before .before .before .before .before .args .pool .now) (c .before .before .before .before .before .before .before .before .before .before .args .records .now) (c .before .before .before .before .before .before .before .before .before .before .args .levels) (c .before .before .before .before .before .before .before .before .before .before .args .place) (c .before .before .before .before .before .before .before .before .before .before .args .i) (c .before .before .before .before .before .before .if1 .left) (c .before .before .before .before .before .record-at .ensures) (fault-known (c .before .before .before .before .before .before .before .before .before .before .args .arities .now) (c .before .before .before .before .before .before .before .before .before .before .args .pool .now) (c .before .before .before .before .before .before .before .before .before .before .args .place) (c .before .before .before .before .before .before .before .before .before .before .args .levels) (c .before .before .before .before .before .record-at .result) (row-known _ _ (c .before .before .before .before .position-of .ensures) (c .before .before .before .if2 .left) (c .before .before .row-at .ensures)) (c .before .fault-of .ensures)) (c .if3 .left)))  -- check-term-sub-check-kids
-    (λ c κs. (omega (arith, some-level (c .before .before .before .before .before .before .before .before .before .before .args .arities .now) (c .before .before .before .before .before .before .before .before .before .before .args .pool .now) (c .before .before .before .before .before .before .before .before .before .before .args .records .now) (c .before .before .before .before .before .before .before .before .before .before .args .levels) (c .before .before .before .before .before .before .before .before .before .before .args .place) (c .before .before .before .before .before .before .before .before .before .before .args .i) (c .before .before .before .before .before .before .if1 .left) (c .before .before .before .before .before .record-at .ensures) (fault-known (c .before .before .before .before .before .before .before .before .before .before .args .arities .now) (c .before .before .before .before .before .before .before .before .before .before .args .pool .now) (c .before .before .before .before .before .before .before .before .before .before .args .place) (c .before .before .before .before .before .before .before .before .before .before .args .levels) (c .before .before .before .before .before .record-at .result) (row-known _ _ (c .before .before .before .before .position-of .ensures) (c .before .before .before .if2 .left) (c .before .before .row-at .ensures)) (c .before .fault-of .ensures)) (c .if3 .left)), search needs))  -- check-term-check-kids-requires
-    (λ c. told-kids (c .before .before .before .before .before .before .before .before .before .before .before .args .arities .now) (c .before .before .before .before .before .before .before .before .before .before .before .args .pool .now) (c .before .before .before .before .before .before .before .before .before .before .before .args .records .now) (c .before .before .before .before .before .before .before .before .before .before .before .args .levels) (c .before .before .before .before .before .before .before .before .before .before .before .args .place) (c .before .before .before .before .before .before .before .before .before .before .before .args .i) (c .before .before .before .before .before .before .before .if1 .left) (c .before .before .before .before .before .before .record-at .ensures) (fault-known (c .before .before .before .before .before .before .before .before .before .before .before .args .arities .now) (c .before .before .before .before .before .before .before .before .before .before .before .args .pool .now) (c .before .before .before .before .before .before .before .before .before .before .before .args .place) (c .before .before .before .before .before .before .before .before .before .before .before .args .levels) (c .before .before .before .before .before .before .record-at .result) (row-known _ _ (c .before .before .before .before .before .position-of .ensures) (c .before .before .before .before .if2 .left) (c .before .before .before .row-at .ensures)) (c .before .before .fault-of .ensures)) (row-known _ _ (c .before .before .before .before .before .position-of .ensures) (c .before .before .before .before .if2 .left) (c .before .before .before .row-at .ensures)) (c .before .if3 .left) (c .check-kids .ensures))  -- check-term-returns-4
+    (λ c. let at-record-at = c .before .before .before .before .before in let at-else1 = at-record-at .before in let at-start = at-else1 .before .before .before .before in omega (arith, some-level (at-start .args .arities .now) (at-start .args .pool .now) (at-start .args .records .now) (at-start .args .levels) (at-start .args .place) (at-start .args .i) (at-else1 .if1 .left) (at-record-at .record-at .ensures) (check-term-fault-known₁ t (c .before) .holds) (c .if3 .left)))  -- check-term-sub-check-kids
+    (λ c κs. let at-record-at = c .before .before .before .before .before in let at-else1 = at-record-at .before in let at-start = at-else1 .before .before .before .before in (omega (arith, some-level (at-start .args .arities .now) (at-start .args .pool .now) (at-start .args .records .now) (at-start .args .levels) (at-start .args .place) (at-start .args .i) (at-else1 .if1 .left) (at-record-at .record-at .ensures) (check-term-fault-known₁ t (c .before) .holds) (c .if3 .left)), search needs))  -- check-term-check-kids-requires
+    (λ c. let at-fault-of = c .before .before in let at-row-at = at-fault-of .before in let at-position-of = at-row-at .before .before in let at-record-at = at-position-of .before in let at-start = at-record-at .before .before .before .before .before in told-kids (at-start .args .arities .now) (at-start .args .pool .now) (at-start .args .records .now) (at-start .args .levels) (at-start .args .place) (at-start .args .i) (search) (at-record-at .record-at .ensures) (check-term-fault-known₁ t at-fault-of .holds) (row-known _ _ (at-position-of .position-of .ensures) (search) (at-row-at .row-at .ensures)) (c .before .if3 .left) (c .check-kids .ensures))  -- check-term-returns-4

@@ -12,11 +12,11 @@ fault-of-spec =
     (λ c κs. search needs)  -- is-in-pool-requires
     (λ c κs. search needs)  -- in-range-requires
     (λ c κs. search needs)  -- both-requires
-    (λ c. fault-5 (c .before .before .before .before .before .before .before .args .row) (c .before .before .before .before .before .before .before .args .arities .now) (c .before .before .before .before .before .before .before .args .pool .now) (c .before .before .before .before .before .before .before .args .place) (c .before .before .before .before .before .before .before .args .levels) (c .before .before .before .before .before .before .before .args .r) (c .before .before .before .before .text-at .ensures) (c .before .before .before .is-in-pool .ensures) (c .before .before .in-range .ensures) (c .before .both .ensures) (c .if1 .taken))  -- returns
+    (λ c. let at-in-range = c .before .before in let at-is-in-pool = at-in-range .before in let at-text-at = at-is-in-pool .before in let at-start = at-text-at .before .before .before in fault-5 (at-start .args .row) (at-start .args .arities .now) (at-start .args .pool .now) (at-start .args .place) (at-start .args .levels) (at-start .args .r) (at-text-at .text-at .ensures) (at-is-in-pool .is-in-pool .ensures) (at-in-range .in-range .ensures) (c .before .both .ensures) (c .if1 .taken))  -- returns
     (λ c κs. search needs)  -- is-spelled-requires
-    (λ c. fault-6 (c .before .before .before .before .before .before .before .before .before .args .row) (c .before .before .before .before .before .before .before .before .before .args .arities .now) (c .before .before .before .before .before .before .before .before .before .args .pool .now) (c .before .before .before .before .before .before .before .before .before .args .place) (c .before .before .before .before .before .before .before .before .before .args .levels) (c .before .before .before .before .before .before .before .before .before .args .r) (c .before .before .before .before .before .before .text-at .ensures) (c .before .before .before .before .before .is-in-pool .ensures) (c .before .before .before .before .in-range .ensures) (c .before .before .before .both .ensures) (c .before .before .if1 .left) (c .before .is-spelled .ensures) (c .if2 .taken))  -- returns-2
+    (λ c. let at-both = c .before .before .before in let at-in-range = at-both .before in let at-is-in-pool = at-in-range .before in let at-text-at = at-is-in-pool .before in let at-start = at-text-at .before .before .before in fault-6 (at-start .args .row) (at-start .args .arities .now) (at-start .args .pool .now) (at-start .args .place) (at-start .args .levels) (at-start .args .r) (at-text-at .text-at .ensures) (at-is-in-pool .is-in-pool .ensures) (at-in-range .in-range .ensures) (at-both .both .ensures) (search) (c .before .is-spelled .ensures) (c .if2 .taken))  -- returns-2
     (λ c κs. search needs)  -- is-counted-requires
-    (λ c. fault-7 (c .before .before .before .before .before .before .before .before .before .before .before .args .row) (c .before .before .before .before .before .before .before .before .before .before .before .args .arities .now) (c .before .before .before .before .before .before .before .before .before .before .before .args .pool .now) (c .before .before .before .before .before .before .before .before .before .before .before .args .place) (c .before .before .before .before .before .before .before .before .before .before .before .args .levels) (c .before .before .before .before .before .before .before .before .before .before .before .args .r) (c .before .before .before .before .before .before .before .before .text-at .ensures) (c .before .before .before .before .before .before .before .is-in-pool .ensures) (c .before .before .before .before .before .before .in-range .ensures) (c .before .before .before .before .before .both .ensures) (c .before .before .before .before .if1 .left) (c .before .before .before .is-spelled .ensures) (c .before .before .if2 .left) (c .before .is-counted .ensures) (c .if3 .taken))  -- returns-3
+    (λ c. let at-is-spelled = c .before .before .before in let at-both = at-is-spelled .before .before in let at-in-range = at-both .before in let at-is-in-pool = at-in-range .before in let at-text-at = at-is-in-pool .before in let at-start = at-text-at .before .before .before in fault-7 (at-start .args .row) (at-start .args .arities .now) (at-start .args .pool .now) (at-start .args .place) (at-start .args .levels) (at-start .args .r) (at-text-at .text-at .ensures) (at-is-in-pool .is-in-pool .ensures) (at-in-range .in-range .ensures) (at-both .both .ensures) (search) (at-is-spelled .is-spelled .ensures) (search) (c .before .is-counted .ensures) (c .if3 .taken))  -- returns-3
     (λ c κs. search needs)  -- place-fault-requires
-    (λ c. fault-place (c .before .before .before .before .before .before .before .before .before .before .before .before .args .row) (c .before .before .before .before .before .before .before .before .before .before .before .before .args .arities .now) (c .before .before .before .before .before .before .before .before .before .before .before .before .args .pool .now) (c .before .before .before .before .before .before .before .before .before .before .before .before .args .place) (c .before .before .before .before .before .before .before .before .before .before .before .before .args .levels) (c .before .before .before .before .before .before .before .before .before .before .before .before .args .r) (c .before .before .before .before .before .before .before .before .before .text-at .ensures) (c .before .before .before .before .before .before .before .before .is-in-pool .ensures) (c .before .before .before .before .before .before .before .in-range .ensures) (c .before .before .before .before .before .before .both .ensures) (c .before .before .before .before .before .if1 .left) (c .before .before .before .before .is-spelled .ensures) (c .before .before .before .if2 .left) (c .before .before .is-counted .ensures) (c .before .if3 .left) (c .place-fault .ensures))  -- returns-4
+    (λ c. let at-is-counted = c .before .before in let at-is-spelled = at-is-counted .before .before in let at-both = at-is-spelled .before .before in let at-in-range = at-both .before in let at-is-in-pool = at-in-range .before in let at-text-at = at-is-in-pool .before in let at-start = at-text-at .before .before .before in fault-place (at-start .args .row) (at-start .args .arities .now) (at-start .args .pool .now) (at-start .args .place) (at-start .args .levels) (at-start .args .r) (at-text-at .text-at .ensures) (at-is-in-pool .is-in-pool .ensures) (at-in-range .in-range .ensures) (at-both .both .ensures) (search) (at-is-spelled .is-spelled .ensures) (search) (at-is-counted .is-counted .ensures) (c .before .if3 .left) (c .place-fault .ensures))  -- returns-4
     )

@@ -10,8 +10,9 @@ use Rattle.encode.specs.WalkLaws.{termsFrom, list-fits, none-measured, o
 use Rattle.encode.specs.Sound.{node-parent, ready-here, takes-here}
 use Rattle.encode.specs.Kept.{Kept, parent-put}
 use Prim.Native.Nat.{ℕ, _<_}
-use borrow.Fn.Kinds.{In}
+use borrow.Fn.Kinds.{In, Out}
 use borrow.Fn.PlainCycle.{Measures, is, falls, and}
+use Rattle.octets.specs.Known.{Known, known}
 use Rattle.encode.proofs.kids_of.Reads as kids-of
 use Rattle.encode.proofs.kids_of.Kinds as kids-of-kinds
 use Rattle.encode.proofs.+kids_of+size_of+sizes_in.Lts-kids_of as kids-of-lts
@@ -68,6 +69,30 @@ abbrev sizes-in-μ-loop : sizes-in-lts.MeasureT-loop
 sizes-in-μ-loop records pool n i levels kept₀ left₀ size₀ count₀ deep₀ next₀ kept left size count deep next =
     left
 
+-- what is known at the places of `size_of`
+module _ (t : ℕ) where
+  abbrev size-of-claims : size-of-lts.Claims
+  size-of-claims = (record-at-reads.Asked, record-at-reads.Learnt, position-of-reads.Asked, position-of-reads.Learnt, text-at-reads.Asked, text-at-reads.Learnt, kids-of-below t, kids-of.Post, term-len-reads.Asked, term-len-reads.Learnt, records-in-reads.Asked, records-in-reads.Learnt, is-deeper-reads.Asked, is-deeper-reads.Learnt)
+
+  abbrev At-size-of : (size-of-lts.Claims → In 3 size-of-kinds.ps → Out 3 size-of-kinds.ps size-of-kinds.r → Type 0) → Type 0
+  At-size-of Place = Place size-of-claims (size-of-at t) size-of.Post
+
+  abbrev size-of-list-fits₁ : At-size-of size-of-lts.After-record-at → Known
+  size-of-list-fits₁ c =
+      let at-start = c .before .before .before .before .before .before in
+      known (list-fits (at-start .args .records .now) (at-start .args .pool .now) (at-start .pre .1 .0 .small) (at-start .args .levels - 1) (at-start .args .i + 1) (c .record-at .result .kids))
+
+-- what is known at the places of `sizes_in`
+module _ (t : ℕ) where
+  abbrev sizes-in-claims : sizes-in-lts.Claims
+  sizes-in-claims = (size-of-below t, size-of.Post, either-reads.Asked, either-reads.Learnt)
+
+  abbrev At-sizes-in : (sizes-in-lts.Claims → In 3 sizes-in-kinds.ps → Out 3 sizes-in-kinds.ps sizes-in-kinds.r → sizes-in-lts.InvT-loop → sizes-in-lts.MeasureT-loop → Type 0) → Type 0
+  At-sizes-in Place = Place sizes-in-claims (sizes-in-at t) sizes-in.Post sizes-in-Inv-loop sizes-in-μ-loop
+
+  abbrev sizes-in-list-fits₁ : At-sizes-in sizes-in-lts.Start → Known
+  sizes-in-list-fits₁ c = known (list-fits (c .args .records .now) (c .args .pool .now) (c .pre .1 .0 .small) (c .args .levels) (c .args .i) (c .args .n))
+
 pub +kids-of+size-of+sizes-in-spec : {M : Type 1} → statement M
 +kids-of+size-of+sizes-in-spec = close μ-kids-of μ-size-of μ-sizes-in (λ t. kids-of-lts.spec (
   sizes-in-below t,
@@ -77,59 +102,44 @@ pub +kids-of+size-of+sizes-in-spec : {M : Type 1} → statement M
 )
     (kids-of-at t)
     kids-of.Post
-    (λ c. omega (arith, c .before .before .before .before .pre .1 .1 .here, c .before .before .before .before .pre .1 .0 .small .few))  -- kids-of-add-t9
-    (λ c. (none-listed _ _ _ _ _ (c .if1 .taken), c .before .before .before .before .pre .1 .2))  -- kids-of-returns
-    (λ c. omega (arith, c .before .before .before .before .pre .1 .1 .here, c .before .before .before .before .pre .1 .0 .small .few))  -- kids-of-add-sizes-in
-    (λ c. omega (arith, c .before .before .before .before .pre .1 .1 .level))  -- kids-of-sub-sizes-in
-    (λ c κs. (omega (arith, c .before .before .before .before .before .pre .1 .1 .level), (c .before .before .before .before .before .pre .1 .0, omega (arith, c .before .before .before .before .before .pre .1 .1 .most), c .before .before .before .before .before .pre .1 .2)))  -- kids-of-sizes-in-requires
-    (λ c κs. (omega (arith, c .before .before .before .before .before .before .before .before .before .pre .1 .1 .here, c .before .before .before .before .before .before .before .before .before .pre .1 .0 .small .few), c .before .before .before .before .before .before .before .before .before .pre .1 .1 .most))  -- kids-of-keep-requires
+    (λ c. let at-start = c .before .before .before .before in omega (arith, at-start .pre .1 .1 .here, at-start .pre .1 .0 .small .few))  -- kids-of-add-t9
+    (λ c. let at-start = c .before .before .before .before in (none-listed _ _ _ _ _ (c .if1 .taken), at-start .pre .1 .2))  -- kids-of-returns
+    (λ c. let at-start = c .before .before .before .before in omega (arith, at-start .pre .1 .1 .here, at-start .pre .1 .0 .small .few))  -- kids-of-add-sizes-in
+    (λ c. let at-start = c .before .before .before .before in omega (arith, at-start .pre .1 .1 .level))  -- kids-of-sub-sizes-in
+    (λ c κs. let at-start = c .before .before .before .before .before in (omega (arith, at-start .pre .1 .1 .level), (at-start .pre .1 .0, omega (arith, at-start .pre .1 .1 .most), at-start .pre .1 .2)))  -- kids-of-sizes-in-requires
+    (λ c κs. let at-start = c .before .before .before .before .before .before .before .before .before in (omega (arith, at-start .pre .1 .1 .here, at-start .pre .1 .0 .small .few), at-start .pre .1 .1 .most))  -- kids-of-keep-requires
     (λ c. search needs)  -- kids-of-same-length
-    (λ c. (c .before .before .before .before .before .before .sizes-in .ensures .0, rw (c .before .before .keep .ensures) (parent-put (c .before .before .before .before .before .before .sizes-in .ensures .1) (c .before .before .before .before .before .before .before .before .before .before .before .before .pre .1 .1) _ (c .before .before .before .before .before .before .sizes-in .ensures .0 .counted))))  -- kids-of-returns-2
+    (λ c. let at-keep = c .before .before in let at-sizes-in = at-keep .before .before .before .before in let at-start = at-sizes-in .before .before .before .before .before .before in (at-sizes-in .sizes-in .ensures .0, rw (at-keep .keep .ensures) (parent-put (at-sizes-in .sizes-in .ensures .1) (at-start .pre .1 .1) _ (at-sizes-in .sizes-in .ensures .0 .counted))))  -- kids-of-returns-2
     )
-    (λ t. size-of-lts.spec (
-      record-at-reads.Asked,
-      record-at-reads.Learnt,
-      position-of-reads.Asked,
-      position-of-reads.Learnt,
-      text-at-reads.Asked,
-      text-at-reads.Learnt,
-      kids-of-below t,
-      kids-of.Post,
-      term-len-reads.Asked,
-      term-len-reads.Learnt,
-      records-in-reads.Asked,
-      records-in-reads.Learnt,
-      is-deeper-reads.Asked,
-      is-deeper-reads.Learnt,
-    )
+    (λ t. size-of-lts.spec (size-of-claims t)
     (size-of-at t)
     size-of.Post
-    (λ c. (none-measured _ _ _ _ (c .if1 .taken), c .before .before .before .before .pre .1 .2))  -- size-of-returns
-    (λ c. (out-measured _ _ _ _ (c .if2 .taken), c .before .before .before .before .before .pre .1 .2))  -- size-of-returns-2
+    (λ c. let at-start : At-size-of t size-of-lts.Start = search in (none-measured _ _ _ _ (c .if1 .taken), at-start .pre .1 .2))  -- size-of-returns
+    (λ c. let at-start : At-size-of t size-of-lts.Start = search in (out-measured _ _ _ _ (c .if2 .taken), at-start .pre .1 .2))  -- size-of-returns-2
     (λ c κs. search needs)  -- size-of-record-at-requires
     (λ c κs. search needs)  -- size-of-position-of-requires
     (λ c κs. search needs)  -- size-of-text-at-requires
-    (λ c κs. (omega arith, (c .before .before .before .before .before .before .before .before .before .pre .1 .0, node-parent {r = c .before .before .before .record-at .result} (record { sound = c .before .before .before .before .before .before .before .before .before .pre .1 .0; level = c .before .before .before .before .before .if1 .left; most = c .before .before .before .before .before .before .before .before .before .pre .1 .1; here = c .before .before .before .before .if2 .left; is = c .before .before .before .record-at .ensures }), c .before .before .before .before .before .before .before .before .before .pre .1 .2)))  -- size-of-kids-of-requires
-    (λ c κs. ready-here (record { sound = c .before .before .before .before .before .before .before .before .before .before .before .before .pre .1 .0; level = c .before .before .before .before .before .before .before .before .if1 .left; most = c .before .before .before .before .before .before .before .before .before .before .before .before .pre .1 .1; here = c .before .before .before .before .before .before .before .if2 .left; is = c .before .before .before .before .before .before .record-at .ensures }) (c .before .before .before .before .before .position-of .ensures) (c .before .before .before .before .text-at .ensures) (omega (arith, c .before .before .kids-of .ensures .0 .counted, (list-fits (c .before .before .before .before .before .before .before .before .before .before .before .before .args .records .now) (c .before .before .before .before .before .before .before .before .before .before .before .before .args .pool .now) (c .before .before .before .before .before .before .before .before .before .before .before .before .pre .1 .0 .small) (c .before .before .before .before .before .before .before .before .before .before .before .before .args .levels - 1) (c .before .before .before .before .before .before .before .before .before .before .before .before .args .i + 1) (c .before .before .before .before .before .before .record-at .result .kids)) .bytes)))  -- size-of-term-len-requires
-    (λ c κs. omega (arith, c .before .before .before .kids-of .ensures .0 .recorded, (list-fits (c .before .before .before .before .before .before .before .before .before .before .before .before .before .args .records .now) (c .before .before .before .before .before .before .before .before .before .before .before .before .before .args .pool .now) (c .before .before .before .before .before .before .before .before .before .before .before .before .before .pre .1 .0 .small) (c .before .before .before .before .before .before .before .before .before .before .before .before .before .args .levels - 1) (c .before .before .before .before .before .before .before .before .before .before .before .before .before .args .i + 1) (c .before .before .before .before .before .before .before .record-at .result .kids)) .records))  -- size-of-records-in-requires
+    (λ c κs. let at-record-at = c .before .before .before in let at-else2 = at-record-at .before in let at-else1 = at-else2 .before in let at-start = at-else1 .before .before .before .before in (omega arith, (at-start .pre .1 .0, node-parent {r = at-record-at .record-at .result} (record { sound = at-start .pre .1 .0; level = at-else1 .if1 .left; most = at-start .pre .1 .1; here = at-else2 .if2 .left; is = at-record-at .record-at .ensures }), at-start .pre .1 .2)))  -- size-of-kids-of-requires
+    (λ c κs. let at-kids-of = c .before .before in let at-text-at = at-kids-of .before .before in let at-position-of = at-text-at .before in let at-record-at = at-position-of .before in let at-else2 = at-record-at .before in let at-else1 = at-else2 .before in let at-start = at-else1 .before .before .before .before in ready-here (record { sound = at-start .pre .1 .0; level = at-else1 .if1 .left; most = at-start .pre .1 .1; here = at-else2 .if2 .left; is = at-record-at .record-at .ensures }) (at-position-of .position-of .ensures) (at-text-at .text-at .ensures) (omega (arith, at-kids-of .kids-of .ensures .0 .counted, size-of-list-fits₁ t at-record-at .holds .bytes)))  -- size-of-term-len-requires
+    (λ c κs. let at-kids-of : At-size-of t size-of-lts.After-kids-of = search in omega (arith, at-kids-of .kids-of .ensures .0 .recorded, size-of-list-fits₁ t (search) .holds .records))  -- size-of-records-in-requires
     (λ c. search needs)  -- size-of-sub-is-deeper
     (λ c κs. search needs)  -- size-of-is-deeper-requires
     (λ c. search needs)  -- size-of-same-length
-    (λ c. (node-measured _ _ _ _ (c .before .before .before .before .before .before .before .before .before .before .before .if1 .left) (c .before .before .before .before .before .before .before .before .before .before .if2 .left) (c .before .before .before .before .before .before .before .before .before .record-at .ensures) (c .before .before .before .before .before .kids-of .ensures .0) (takes-here (record { sound = c .before .before .before .before .before .before .before .before .before .before .before .before .before .before .before .pre .1 .0; level = c .before .before .before .before .before .before .before .before .before .before .before .if1 .left; most = c .before .before .before .before .before .before .before .before .before .before .before .before .before .before .before .pre .1 .1; here = c .before .before .before .before .before .before .before .before .before .before .if2 .left; is = c .before .before .before .before .before .before .before .before .before .record-at .ensures }) (c .before .before .before .before .before .before .before .before .position-of .ensures) (c .before .before .before .before .before .before .before .text-at .ensures) _ (c .before .before .before .before .before .kids-of .ensures .0 .counted) (c .before .before .term-len .ensures)) (c .before .records-in .ensures) (c .is-deeper .ensures), c .before .before .before .before .before .kids-of .ensures .1))  -- size-of-returns-3
+    (λ c. let at-term-len = c .before .before in let at-kids-of = at-term-len .before .before .before in let at-text-at = at-kids-of .before .before in let at-position-of = at-text-at .before in let at-record-at = at-position-of .before in let at-else2 = at-record-at .before in let at-else1 = at-else2 .before in let at-start = at-else1 .before .before .before .before in (node-measured _ _ _ _ (at-else1 .if1 .left) (at-else2 .if2 .left) (at-record-at .record-at .ensures) (at-kids-of .kids-of .ensures .0) (takes-here (record { sound = at-start .pre .1 .0; level = at-else1 .if1 .left; most = at-start .pre .1 .1; here = at-else2 .if2 .left; is = at-record-at .record-at .ensures }) (at-position-of .position-of .ensures) (at-text-at .text-at .ensures) _ (at-kids-of .kids-of .ensures .0 .counted) (at-term-len .term-len .ensures)) (c .before .records-in .ensures) (c .is-deeper .ensures), at-kids-of .kids-of .ensures .1))  -- size-of-returns-3
     )
     λ t. sizes-in-lts.spec
-    (size-of-below t, size-of.Post, either-reads.Asked, either-reads.Learnt)
+    (sizes-in-claims t)
     (sizes-in-at t)
     sizes-in.Post
     sizes-in-Inv-loop
     sizes-in-μ-loop
-    (λ c. (left-start _ _ _ _ _, c .before .before .before .pre .1 .2, refl))  -- sizes-in-loop-holds
-    (λ c κs. (omega arith, (c .before .before .before .before .before .before .pre .1 .0, c .before .before .before .before .before .before .pre .1 .1, c .before .before .loop .inv .1)))  -- sizes-in-size-of-requires
-    (λ c. omega (arith, left-sum (c .before .before .before .before .before .before .loop .inv .0) (c .before .before .before .before .before .loop-test .taken) (c .before .before .before .size-of .ensures .0) .0, (list-fits (c .before .before .before .before .before .before .before .before .before .before .args .records .now) (c .before .before .before .before .before .before .before .before .before .before .args .pool .now) (c .before .before .before .before .before .before .before .before .before .before .pre .1 .0 .small) (c .before .before .before .before .before .before .before .before .before .before .args .levels) (c .before .before .before .before .before .before .before .before .before .before .args .i) (c .before .before .before .before .before .before .before .before .before .before .args .n)) .bytes))  -- sizes-in-add-size
-    (λ c. omega (arith, left-sum (c .before .before .before .before .before .before .before .loop .inv .0) (c .before .before .before .before .before .before .loop-test .taken) (c .before .before .before .before .size-of .ensures .0) .1, (list-fits (c .before .before .before .before .before .before .before .before .before .before .before .args .records .now) (c .before .before .before .before .before .before .before .before .before .before .before .args .pool .now) (c .before .before .before .before .before .before .before .before .before .before .before .pre .1 .0 .small) (c .before .before .before .before .before .before .before .before .before .before .before .args .levels) (c .before .before .before .before .before .before .before .before .before .before .before .args .i) (c .before .before .before .before .before .before .before .before .before .before .before .args .n)) .records))  -- sizes-in-add-count
+    (λ c. let at-start : At-sizes-in t sizes-in-lts.Start = search in (left-start _ _ _ _ _, at-start .pre .1 .2, refl))  -- sizes-in-loop-holds
+    (λ c κs. let at-loop = c .before .before in let at-start = at-loop .before .before .before .before in (omega arith, (at-start .pre .1 .0, at-start .pre .1 .1, at-loop .loop .inv .1)))  -- sizes-in-size-of-requires
+    (λ c. let at-size-of = c .before .before .before in let in-loop = at-size-of .before .before in let at-loop = in-loop .before in let at-start = at-loop .before .before .before .before in omega (arith, left-sum (at-loop .loop .inv .0) (in-loop .loop-test .taken) (at-size-of .size-of .ensures .0) .0, sizes-in-list-fits₁ t at-start .holds .bytes))  -- sizes-in-add-size
+    (λ c. let at-size-of = c .before .before .before .before in let in-loop = at-size-of .before .before in let at-loop = in-loop .before in let at-start = at-loop .before .before .before .before in omega (arith, left-sum (at-loop .loop .inv .0) (in-loop .loop-test .taken) (at-size-of .size-of .ensures .0) .1, sizes-in-list-fits₁ t at-start .holds .records))  -- sizes-in-add-count
     (λ c κs. search needs)  -- sizes-in-either-requires
     (λ c. search needs)  -- sizes-in-sub-left
     (λ c. omega arith)  -- sizes-in-loop-less
-    (λ c. (left-turn (c .before .before .before .before .before .before .before .before .loop .inv .0) (c .before .before .before .before .before .before .before .loop-test .taken) (c .before .before .before .before .before .size-of .ensures .0) (c .either .ensures), c .before .before .before .before .before .size-of .ensures .1, search needs))  -- sizes-in-loop-again
+    (λ c. let at-size-of = c .before .before .before .before .before in let in-loop = at-size-of .before .before in let at-loop = in-loop .before in (left-turn (at-loop .loop .inv .0) (in-loop .loop-test .taken) (at-size-of .size-of .ensures .0) (c .either .ensures), at-size-of .size-of .ensures .1, search needs))  -- sizes-in-loop-again
     (λ c. c .before .loop .inv .2)  -- sizes-in-same-length
     (λ c. (left-end (c .before .loop .inv .0) (c .loop-test .left), c .before .loop .inv .1))  -- sizes-in-returns

@@ -12,8 +12,9 @@ use Rattle.encode.specs.WalkLaws.{termsFrom, none-measured, out-measured
 use Rattle.encode.specs.Sound.{node-parent, fine-here, ready-here, start-here, body-few-here, kids-few-here}
 use Rattle.encode.specs.Kept.{Kept}
 use Prim.Native.Nat.{ℕ, _<_}
-use borrow.Fn.Kinds.{In}
+use borrow.Fn.Kinds.{In, Out}
 use borrow.Fn.PlainCycle.{Measures, is, falls, and}
+use Rattle.octets.specs.Known.{Known, known}
 use Rattle.encode.proofs.write_in.Reads as write-in
 use Rattle.encode.proofs.write_in.Kinds as write-in-kinds
 use Rattle.encode.proofs.+write_in+write_kids+write_node+write_term.Lts-write_in as write-in-lts
@@ -85,25 +86,86 @@ write-in-Inv-loop records pool n i levels kept₀ out₀ left₀ at₀ next₀ k
 abbrev write-in-μ-loop : write-in-lts.MeasureT-loop
 write-in-μ-loop records pool n i levels kept₀ out₀ left₀ at₀ next₀ kept out left at next = left
 
+-- what is known at the places of `write_in`
+module _ (t : ℕ) where
+  abbrev write-in-claims : write-in-lts.Claims
+  write-in-claims = (write-term-below t, write-term.Post)
+
+  abbrev At-write-in : (write-in-lts.Claims → In 4 write-in-kinds.ps → Out 4 write-in-kinds.ps write-in-kinds.r → write-in-lts.InvT-loop → write-in-lts.MeasureT-loop → Type 0) → Type 0
+  At-write-in Place = Place write-in-claims (write-in-at t) write-in.Post write-in-Inv-loop write-in-μ-loop
+
+  abbrev turned : At-write-in write-in-lts.After-write-term → Known
+  turned c = known (listing-turn (c .before .before .before .before .loop .inv .0) (c .before .before .before .loop-test .taken) (c .write-term .ensures .0))
+
+-- what is known at the places of `write_node`
+module _ (t : ℕ) where
+  abbrev write-node-claims : write-node-lts.Claims
+  write-node-claims = (position-of-reads.Asked, position-of-reads.Learnt, text-at-reads.Asked, text-at-reads.Learnt, asked-size-reads.Asked, asked-size-reads.Learnt, put-head-reads.Asked, put-head-reads.Learnt, write-kids-below t, write-kids.Post, put-behind-reads.Asked, put-behind-reads.Learnt)
+
+  abbrev At-write-node : (write-node-lts.Claims → In 4 write-node-kinds.ps → Out 4 write-node-kinds.ps write-node-kinds.r → Type 0) → Type 0
+  At-write-node Place = Place write-node-claims (write-node-at t) write-node.Post
+
+  -- the node: what the call requires, its kind and its text; and its size
+  abbrev node-start : At-write-node write-node-lts.After-asked-size → At-write-node write-node-lts.Start
+  node-start c = c .before .before .before .before .before .before .before .before
+
+  abbrev node : At-write-node write-node-lts.After-asked-size → Known
+  node c = known (node-start c .pre .1 .0)
+
+  abbrev kind : At-write-node write-node-lts.After-asked-size → Known
+  kind c = known (c .before .before .before .position-of .ensures)
+
+  abbrev text : At-write-node write-node-lts.After-asked-size → Known
+  text c = known (c .before .before .text-at .ensures)
+
+  abbrev sized : At-write-node write-node-lts.After-asked-size → Known
+  sized c = known (c .asked-size .ensures .0)
+
+  abbrev room : At-write-node write-node-lts.After-asked-size → Known
+  room c = known (node-start c .pre .1 .2)
+
+  -- the three writers in a row: before the first, and after each
+  abbrev w₀ : At-write-node write-node-lts.After-asked-size → Known
+  w₀ c = known (start-here (node c .holds) (kind c .holds) (text c .holds) (sized c .holds) (room c .holds))
+
+  abbrev w₁ : At-write-node write-node-lts.After-put-head → Known
+  w₁ c = known (writing-next (w₀ (c .before .before .before .before) .holds) (c .put-head .ensures))
+
+  abbrev w₂ : At-write-node write-node-lts.After-write-kids → Known
+  w₂ c = known (writing-next (w₁ (c .before .before .before .before .before) .holds) (c .write-kids .ensures .0 .wrote))
+
+  abbrev w₃ : At-write-node write-node-lts.After-put-behind → Known
+  w₃ c = known (writing-next (w₂ (c .before .before .before .before .before .before .before) .holds) (c .put-behind .ensures))
+
+  abbrev kids : At-write-node write-node-lts.After-write-kids → Known
+  kids c = known (c .write-kids .ensures)
+
+  abbrev written : At-write-node write-node-lts.After-put-behind → Known
+  written c = known (writing-end (w₃ c .holds))
+
+  -- the place of the size, from after the children and from the end
+  abbrev asked₁ : At-write-node write-node-lts.After-write-kids → At-write-node write-node-lts.After-asked-size
+  asked₁ c = c .before .before .before .before .before .before .before .before .before
+
+  abbrev asked₂ : At-write-node write-node-lts.After-put-behind → At-write-node write-node-lts.After-asked-size
+  asked₂ c = asked₁ (c .before .before .before .before .before .before .before)
+
 pub +write-in+write-kids+write-node+write-term-spec : {M : Type 1} → statement M
 +write-in+write-kids+write-node+write-term-spec =
-    close μ-write-in μ-write-kids μ-write-node μ-write-term (λ t. write-in-lts.spec (
-      write-term-below t,
-      write-term.Post,
-    )
+    close μ-write-in μ-write-kids μ-write-node μ-write-term (λ t. write-in-lts.spec (write-in-claims t)
     (write-in-at t)
     write-in.Post
     write-in-Inv-loop
     write-in-μ-loop
-    (λ c. (listing-start _ _ _ _ _ _ (c .before .before .before .before .pre .1 .3 .fits), c .before .before .before .before .pre .1 .2, refl))  -- write-in-loop-holds
-    (λ c. omega (arith, c .before .before .loop .inv .0 .fill .within))  -- write-in-sub-write-term
-    (λ c. omega (arith, c .before .before .loop .inv .0 .fill .within))  -- write-in-part-write-term-start
+    (λ c. let at-start : At-write-in t write-in-lts.Start = search in (listing-start _ _ _ _ _ _ (at-start .pre .1 .3 .fits), at-start .pre .1 .2, refl))  -- write-in-loop-holds
+    (λ c. let at-loop : At-write-in t write-in-lts.At-loop = search in omega (arith, at-loop .loop .inv .0 .fill .within))  -- write-in-sub-write-term
+    (λ c. let at-loop : At-write-in t write-in-lts.At-loop = search in omega (arith, at-loop .loop .inv .0 .fill .within))  -- write-in-part-write-term-start
     (λ c. search needs)  -- write-in-part-write-term-end
-    (λ c κs. (omega arith, (c .before .before .before .before .before .before .before .before .pre .1 .0, c .before .before .before .before .before .before .before .before .pre .1 .1, c .before .before .before .loop .inv .1, record { fits = listing-fits (c .before .before .before .loop .inv .0) (c .before .before .loop-test .taken); few = omega (arith, listing-less (c .before .before .before .loop .inv .0) (c .before .before .loop-test .taken), c .before .before .before .before .before .before .before .before .pre .1 .3 .few) })))  -- write-in-write-term-requires
-    (λ c. omega (arith, (listing-turn (c .before .before .before .before .before .before .before .before .before .loop .inv .0) (c .before .before .before .before .before .before .before .before .loop-test .taken) (c .before .before .before .before .before .write-term .ensures .0)) .fill .within, (listing-turn (c .before .before .before .before .before .before .before .before .before .loop .inv .0) (c .before .before .before .before .before .before .before .before .loop-test .taken) (c .before .before .before .before .before .write-term .ensures .0)) .fill .len))  -- write-in-add-at
+    (λ c κs. let in-loop = c .before .before in let at-loop = in-loop .before in let at-start = at-loop .before .before .before .before .before in (omega arith, (at-start .pre .1 .0, at-start .pre .1 .1, at-loop .loop .inv .1, record { fits = listing-fits (at-loop .loop .inv .0) (search); few = omega (arith, listing-less (at-loop .loop .inv .0) (in-loop .loop-test .taken), at-start .pre .1 .3 .few) })))  -- write-in-write-term-requires
+    (λ c. omega (arith, turned t (search) .holds))  -- write-in-add-at
     (λ c. search needs)  -- write-in-sub-left
     (λ c. omega arith)  -- write-in-loop-less
-    (λ c. ((listing-turn (c .before .before .before .before .before .before .before .before .before .loop .inv .0) (c .before .before .before .before .before .before .before .before .loop-test .taken) (c .before .before .before .before .before .write-term .ensures .0)), c .before .before .before .before .before .write-term .ensures .1, search needs))  -- write-in-loop-again
+    (λ c. let at-write-term : At-write-in t write-in-lts.After-write-term = search in (turned t (search) .holds, at-write-term .write-term .ensures .1, search needs))  -- write-in-loop-again
     (λ c. c .before .loop .inv .2)  -- write-in-same-length
     (λ c. c .before .loop .inv .0 .fill .len)  -- write-in-same-length-2
     (λ c. (listing-end (c .before .loop .inv .0) (c .loop-test .left), c .before .loop .inv .1))  -- write-in-returns
@@ -112,60 +174,47 @@ pub +write-in+write-kids+write-node+write-term-spec : {M : Type 1} → statement
     (write-in-below t, write-in.Post)
     (write-kids-at t)
     write-kids.Post
-    (λ c. (put-none _ (none-listed _ _ _ _ _ (c .if1 .taken)), c .before .before .before .before .before .pre .1 .2))  -- write-kids-returns
-    (λ c κs. (omega arith, c .before .before .before .before .before .before .before .pre .1))  -- write-kids-write-in-requires
+    (λ c. let at-start = c .before .before .before .before .before in (put-none _ (none-listed _ _ _ _ _ (c .if1 .taken)), at-start .pre .1 .2))  -- write-kids-returns
+    (λ c κs. let at-start = c .before .before .before .before .before .before .before in (omega arith, at-start .pre .1))  -- write-kids-write-in-requires
     (λ c. search needs)  -- write-kids-same-length
     (λ c. search needs)  -- write-kids-same-length-2
-    (λ c. c .before .before .before .before .write-in .ensures)  -- write-kids-returns-2
+    (λ c. let at-write-in = c .before .before .before .before in at-write-in .write-in .ensures)  -- write-kids-returns-2
     )
-    (λ t. write-node-lts.spec (
-      position-of-reads.Asked,
-      position-of-reads.Learnt,
-      text-at-reads.Asked,
-      text-at-reads.Learnt,
-      asked-size-reads.Asked,
-      asked-size-reads.Learnt,
-      put-head-reads.Asked,
-      put-head-reads.Learnt,
-      write-kids-below t,
-      write-kids.Post,
-      put-behind-reads.Asked,
-      put-behind-reads.Learnt,
-    )
+    (λ t. write-node-lts.spec (write-node-claims t)
     (write-node-at t)
     write-node.Post
     (λ c κs. search needs)  -- write-node-position-of-requires
     (λ c κs. search needs)  -- write-node-text-at-requires
-    (λ c κs. (c .before .before .before .before .before .before .before .pre .1 .0 .sound, node-parent (c .before .before .before .before .before .before .before .pre .1 .0), c .before .before .before .before .before .before .before .pre .1 .1))  -- write-node-asked-size-requires
+    (λ c κs. let at-start : At-write-node t write-node-lts.Start = search in (at-start .pre .1 .0 .sound, node-parent (at-start .pre .1 .0), at-start .pre .1 .1))  -- write-node-asked-size-requires
     (λ c. search needs)  -- write-node-sub-put-head
     (λ c. search needs)  -- write-node-part-put-head-start
     (λ c. search needs)  -- write-node-part-put-head-end
-    (λ c κs. (ready-here (c .before .before .before .before .before .before .before .before .before .before .before .pre .1 .0) (c .before .before .before .before .before .before .position-of .ensures) (c .before .before .before .before .before .text-at .ensures) (c .before .before .before .asked-size .ensures .0 .few), writing-fits (start-here (c .before .before .before .before .before .before .before .before .before .before .before .pre .1 .0) (c .before .before .before .before .before .before .position-of .ensures) (c .before .before .before .before .before .text-at .ensures) (c .before .before .before .asked-size .ensures .0) (c .before .before .before .before .before .before .before .before .before .before .before .pre .1 .2)), body-few-here (c .before .before .before .before .before .before .before .before .before .before .before .pre .1 .0) (c .before .before .before .before .before .before .position-of .ensures) (c .before .before .before .before .before .text-at .ensures) (c .before .before .before .asked-size .ensures .0) (c .before .before .before .before .before .before .before .before .before .before .before .pre .1 .2)))  -- write-node-put-head-requires
+    (λ c κs. let k : At-write-node t write-node-lts.After-asked-size = search in (ready-here (node t k .holds) (kind t k .holds) (text t k .holds) (sized t k .holds .few), writing-fits (w₀ t k .holds), body-few-here (node t k .holds) (kind t k .holds) (text t k .holds) (sized t k .holds) (room t k .holds)))  -- write-node-put-head-requires
     (λ c. search needs)  -- write-node-add-at
-    (λ c. omega (arith, c .before .before .before .before .before .before .before .before .before .before .before .before .before .before .pre .1 .0 .here, c .before .before .before .before .before .before .before .before .before .before .before .before .before .before .pre .1 .0 .sound .small .few))  -- write-node-add-write-kids
-    (λ c. omega (arith, c .before .before .before .before .before .before .before .before .before .before .before .before .before .before .pre .1 .0 .level))  -- write-node-sub-write-kids
-    (λ c. omega (arith, writing-within (writing-next (start-here (c .before .before .before .before .before .before .before .before .before .before .before .before .before .before .before .pre .1 .0) (c .before .before .before .before .before .before .before .before .before .before .position-of .ensures) (c .before .before .before .before .before .before .before .before .before .text-at .ensures) (c .before .before .before .before .before .before .before .asked-size .ensures .0) (c .before .before .before .before .before .before .before .before .before .before .before .before .before .before .before .pre .1 .2)) (c .before .before .before .put-head .ensures))))  -- write-node-sub-write-kids-2
-    (λ c. omega (arith, writing-within (writing-next (start-here (c .before .before .before .before .before .before .before .before .before .before .before .before .before .before .before .pre .1 .0) (c .before .before .before .before .before .before .before .before .before .before .position-of .ensures) (c .before .before .before .before .before .before .before .before .before .text-at .ensures) (c .before .before .before .before .before .before .before .asked-size .ensures .0) (c .before .before .before .before .before .before .before .before .before .before .before .before .before .before .before .pre .1 .2)) (c .before .before .before .put-head .ensures))))  -- write-node-part-write-kids-start
+    (λ c. let k : At-write-node t write-node-lts.After-asked-size = search in omega (arith, node t k .holds .here, node t k .holds .sound .small .few))  -- write-node-add-write-kids
+    (λ c. let k : At-write-node t write-node-lts.After-asked-size = search in omega (arith, node t k .holds .level))  -- write-node-sub-write-kids
+    (λ c. writing-within (w₁ t (search) .holds))  -- write-node-sub-write-kids-2
+    (λ c. writing-within (w₁ t (search) .holds))  -- write-node-part-write-kids-start
     (λ c. search needs)  -- write-node-part-write-kids-end
-    (λ c κs. (omega (arith, c .before .before .before .before .before .before .before .before .before .before .before .before .before .before .before .before .pre .1 .0 .level), (c .before .before .before .before .before .before .before .before .before .before .before .before .before .before .before .before .pre .1 .0 .sound, omega (arith, c .before .before .before .before .before .before .before .before .before .before .before .before .before .before .before .before .pre .1 .0 .most), c .before .before .before .before .before .before .before .before .asked-size .ensures .1, record { fits = writing-fits (writing-next (start-here (c .before .before .before .before .before .before .before .before .before .before .before .before .before .before .before .before .pre .1 .0) (c .before .before .before .before .before .before .before .before .before .before .before .position-of .ensures) (c .before .before .before .before .before .before .before .before .before .before .text-at .ensures) (c .before .before .before .before .before .before .before .before .asked-size .ensures .0) (c .before .before .before .before .before .before .before .before .before .before .before .before .before .before .before .before .pre .1 .2)) (c .before .before .before .before .put-head .ensures)); few = kids-few-here (c .before .before .before .before .before .before .before .before .before .before .before .before .before .before .before .before .pre .1 .0) (c .before .before .before .before .before .before .before .before .before .before .before .position-of .ensures) (c .before .before .before .before .before .before .before .before .before .before .text-at .ensures) (c .before .before .before .before .before .before .before .before .asked-size .ensures .0) (c .before .before .before .before .before .before .before .before .before .before .before .before .before .before .before .before .pre .1 .2) })))  -- write-node-write-kids-requires
-    (λ c. omega (arith, writing-within (writing-next (writing-next (start-here (c .before .before .before .before .before .before .before .before .before .before .before .before .before .before .before .before .before .before .before .before .before .before .pre .1 .0) (c .before .before .before .before .before .before .before .before .before .before .before .before .before .before .before .before .before .position-of .ensures) (c .before .before .before .before .before .before .before .before .before .before .before .before .before .before .before .before .text-at .ensures) (c .before .before .before .before .before .before .before .before .before .before .before .before .before .before .asked-size .ensures .0) (c .before .before .before .before .before .before .before .before .before .before .before .before .before .before .before .before .before .before .before .before .before .before .pre .1 .2)) (c .before .before .before .before .before .before .before .before .before .before .put-head .ensures)) (c .before .before .before .before .before .write-kids .ensures .0 .wrote)), writing-same (writing-next (writing-next (start-here (c .before .before .before .before .before .before .before .before .before .before .before .before .before .before .before .before .before .before .before .before .before .before .pre .1 .0) (c .before .before .before .before .before .before .before .before .before .before .before .before .before .before .before .before .before .position-of .ensures) (c .before .before .before .before .before .before .before .before .before .before .before .before .before .before .before .before .text-at .ensures) (c .before .before .before .before .before .before .before .before .before .before .before .before .before .before .asked-size .ensures .0) (c .before .before .before .before .before .before .before .before .before .before .before .before .before .before .before .before .before .before .before .before .before .before .pre .1 .2)) (c .before .before .before .before .before .before .before .before .before .before .put-head .ensures)) (c .before .before .before .before .before .write-kids .ensures .0 .wrote)), c .before .before .before .before .before .before .before .before .before .before .before .before .before .before .before .before .before .before .before .before .before .before .good .1 .1 .1 .1 .1 .1 .0 .0))  -- write-node-add-at-2
-    (λ c. omega (arith, writing-within (writing-next (writing-next (start-here (c .before .before .before .before .before .before .before .before .before .before .before .before .before .before .before .before .before .before .before .before .before .before .pre .1 .0) (c .before .before .before .before .before .before .before .before .before .before .before .before .before .before .before .before .before .position-of .ensures) (c .before .before .before .before .before .before .before .before .before .before .before .before .before .before .before .before .text-at .ensures) (c .before .before .before .before .before .before .before .before .before .before .before .before .before .before .asked-size .ensures .0) (c .before .before .before .before .before .before .before .before .before .before .before .before .before .before .before .before .before .before .before .before .before .before .pre .1 .2)) (c .before .before .before .before .before .before .before .before .before .before .put-head .ensures)) (c .before .before .before .before .before .write-kids .ensures .0 .wrote))))  -- write-node-sub-put-behind
-    (λ c. omega (arith, writing-within (writing-next (writing-next (start-here (c .before .before .before .before .before .before .before .before .before .before .before .before .before .before .before .before .before .before .before .before .before .before .pre .1 .0) (c .before .before .before .before .before .before .before .before .before .before .before .before .before .before .before .before .before .position-of .ensures) (c .before .before .before .before .before .before .before .before .before .before .before .before .before .before .before .before .text-at .ensures) (c .before .before .before .before .before .before .before .before .before .before .before .before .before .before .asked-size .ensures .0) (c .before .before .before .before .before .before .before .before .before .before .before .before .before .before .before .before .before .before .before .before .before .before .pre .1 .2)) (c .before .before .before .before .before .before .before .before .before .before .put-head .ensures)) (c .before .before .before .before .before .write-kids .ensures .0 .wrote))))  -- write-node-part-put-behind-start
+    (λ c κs. let k : At-write-node t write-node-lts.After-asked-size = search in (omega (arith, node t k .holds .level), (node t k .holds .sound, omega (arith, node t k .holds .most), k .asked-size .ensures .1, record { fits = writing-fits (w₁ t (search) .holds); few = kids-few-here (node t k .holds) (kind t k .holds) (text t k .holds) (sized t k .holds) (room t k .holds) })))  -- write-node-write-kids-requires
+    (λ c. let at-start = node-start t (asked₁ t (search)) in omega (arith, w₂ t (search) .holds))  -- write-node-add-at-2
+    (λ c. omega (arith, writing-within (w₂ t (search) .holds)))  -- write-node-sub-put-behind
+    (λ c. omega (arith, writing-within (w₂ t (search) .holds)))  -- write-node-part-put-behind-start
     (λ c. search needs)  -- write-node-part-put-behind-end
-    (λ c κs. (fine-here (c .before .before .before .before .before .before .before .before .before .before .before .before .before .before .before .before .before .before .before .before .before .before .before .pre .1 .0) (c .before .before .before .before .before .before .before .before .before .before .before .before .before .before .before .before .before .before .position-of .ensures) (c .before .before .before .before .before .before .before .before .before .before .before .before .before .before .before .before .before .text-at .ensures), writing-fits (writing-next (writing-next (start-here (c .before .before .before .before .before .before .before .before .before .before .before .before .before .before .before .before .before .before .before .before .before .before .before .pre .1 .0) (c .before .before .before .before .before .before .before .before .before .before .before .before .before .before .before .before .before .before .position-of .ensures) (c .before .before .before .before .before .before .before .before .before .before .before .before .before .before .before .before .before .text-at .ensures) (c .before .before .before .before .before .before .before .before .before .before .before .before .before .before .before .asked-size .ensures .0) (c .before .before .before .before .before .before .before .before .before .before .before .before .before .before .before .before .before .before .before .before .before .before .before .pre .1 .2)) (c .before .before .before .before .before .before .before .before .before .before .before .put-head .ensures)) (c .before .before .before .before .before .before .write-kids .ensures .0 .wrote))))  -- write-node-put-behind-requires
-    (λ c. omega (arith, writing-within (writing-next (writing-next (writing-next (start-here (c .before .before .before .before .before .before .before .before .before .before .before .before .before .before .before .before .before .before .before .before .before .before .before .before .before .before .pre .1 .0) (c .before .before .before .before .before .before .before .before .before .before .before .before .before .before .before .before .before .before .before .before .before .position-of .ensures) (c .before .before .before .before .before .before .before .before .before .before .before .before .before .before .before .before .before .before .before .before .text-at .ensures) (c .before .before .before .before .before .before .before .before .before .before .before .before .before .before .before .before .before .before .asked-size .ensures .0) (c .before .before .before .before .before .before .before .before .before .before .before .before .before .before .before .before .before .before .before .before .before .before .before .before .before .before .pre .1 .2)) (c .before .before .before .before .before .before .before .before .before .before .before .before .before .before .put-head .ensures)) (c .before .before .before .before .before .before .before .before .before .write-kids .ensures .0 .wrote)) (c .before .before .put-behind .ensures)), writing-same (writing-next (writing-next (writing-next (start-here (c .before .before .before .before .before .before .before .before .before .before .before .before .before .before .before .before .before .before .before .before .before .before .before .before .before .before .pre .1 .0) (c .before .before .before .before .before .before .before .before .before .before .before .before .before .before .before .before .before .before .before .before .before .position-of .ensures) (c .before .before .before .before .before .before .before .before .before .before .before .before .before .before .before .before .before .before .before .before .text-at .ensures) (c .before .before .before .before .before .before .before .before .before .before .before .before .before .before .before .before .before .before .asked-size .ensures .0) (c .before .before .before .before .before .before .before .before .before .before .before .before .before .before .before .before .before .before .before .before .before .before .before .before .before .before .pre .1 .2)) (c .before .before .before .before .before .before .before .before .before .before .before .before .before .before .put-head .ensures)) (c .before .before .before .before .before .before .before .before .before .write-kids .ensures .0 .wrote)) (c .before .before .put-behind .ensures)), c .before .before .before .before .before .before .before .before .before .before .before .before .before .before .before .before .before .before .before .before .before .before .before .before .before .before .good .1 .1 .1 .1 .1 .1 .0 .0))  -- write-node-add-at-3
+    (λ c κs. let k = asked₁ t (search) in (fine-here (node t k .holds) (kind t k .holds) (text t k .holds), writing-fits (w₂ t (search) .holds)))  -- write-node-put-behind-requires
+    (λ c. let at-start = node-start t (asked₂ t (search)) in omega (arith, w₃ t (search) .holds))  -- write-node-add-at-3
     (λ c. search needs)  -- write-node-same-length
-    (λ c. writing-same (writing-next (writing-next (writing-next (start-here (c .before .before .before .before .before .before .before .before .before .before .before .before .before .before .before .before .before .before .before .before .before .before .before .before .before .before .pre .1 .0) (c .before .before .before .before .before .before .before .before .before .before .before .before .before .before .before .before .before .before .before .before .before .position-of .ensures) (c .before .before .before .before .before .before .before .before .before .before .before .before .before .before .before .before .before .before .before .before .text-at .ensures) (c .before .before .before .before .before .before .before .before .before .before .before .before .before .before .before .before .before .before .asked-size .ensures .0) (c .before .before .before .before .before .before .before .before .before .before .before .before .before .before .before .before .before .before .before .before .before .before .before .before .before .before .pre .1 .2)) (c .before .before .before .before .before .before .before .before .before .before .before .before .before .before .put-head .ensures)) (c .before .before .before .before .before .before .before .before .before .write-kids .ensures .0 .wrote)) (c .before .before .put-behind .ensures)))  -- write-node-same-length-2
-    (λ c. (node-put _ _ _ _ (c .before .before .before .before .before .before .before .before .before .before .before .before .before .before .before .before .before .before .before .before .before .before .before .before .before .before .pre .1 .0 .level) (c .before .before .before .before .before .before .before .before .before .before .before .before .before .before .before .before .before .before .before .before .before .before .before .before .before .before .pre .1 .0 .here) (c .before .before .before .before .before .before .before .before .before .before .before .before .before .before .before .before .before .before .before .before .before .before .before .before .before .before .pre .1 .0 .is) (writing-end (writing-next (writing-next (writing-next (start-here (c .before .before .before .before .before .before .before .before .before .before .before .before .before .before .before .before .before .before .before .before .before .before .before .before .before .before .pre .1 .0) (c .before .before .before .before .before .before .before .before .before .before .before .before .before .before .before .before .before .before .before .before .before .position-of .ensures) (c .before .before .before .before .before .before .before .before .before .before .before .before .before .before .before .before .before .before .before .before .text-at .ensures) (c .before .before .before .before .before .before .before .before .before .before .before .before .before .before .before .before .before .before .asked-size .ensures .0) (c .before .before .before .before .before .before .before .before .before .before .before .before .before .before .before .before .before .before .before .before .before .before .before .before .before .before .pre .1 .2)) (c .before .before .before .before .before .before .before .before .before .before .before .before .before .before .put-head .ensures)) (c .before .before .before .before .before .before .before .before .before .write-kids .ensures .0 .wrote)) (c .before .before .put-behind .ensures))) (c .before .before .before .before .before .before .before .before .before .write-kids .ensures .0), c .before .before .before .before .before .before .before .before .before .write-kids .ensures .1))  -- write-node-returns
+    (λ c. writing-same (w₃ t (search) .holds))  -- write-node-same-length-2
+    (λ c. let k = asked₂ t (search) in (node-put _ _ _ _ (node t k .holds .level) (node t k .holds .here) (node t k .holds .is) (written t (search) .holds) (kids t (search) .holds .0), kids t (search) .holds .1))  -- write-node-returns
     )
     λ t. write-term-lts.spec
     (record-at-reads.Asked, record-at-reads.Learnt, write-node-below t, write-node.Post)
     (write-term-at t)
     write-term.Post
-    (λ c. (put-none _ (none-measured _ _ _ _ (c .if1 .taken)), c .before .before .before .before .before .pre .1 .2))  -- write-term-returns
-    (λ c. (put-none _ (out-measured _ _ _ _ (c .if2 .taken)), c .before .before .before .before .before .before .pre .1 .2))  -- write-term-returns-2
+    (λ c. let at-start = c .before .before .before .before .before in (put-none _ (none-measured _ _ _ _ (c .if1 .taken)), at-start .pre .1 .2))  -- write-term-returns
+    (λ c. let at-start = c .before .before .before .before .before .before in (put-none _ (out-measured _ _ _ _ (c .if2 .taken)), at-start .pre .1 .2))  -- write-term-returns-2
     (λ c κs. search needs)  -- write-term-record-at-requires
-    (λ c κs. (omega arith, (record { sound = c .before .before .before .before .before .before .before .before .before .pre .1 .0; level = c .before .before .before .before .if1 .left; most = c .before .before .before .before .before .before .before .before .before .pre .1 .1; here = c .before .before .before .if2 .left; is = c .before .before .record-at .ensures }, c .before .before .before .before .before .before .before .before .before .pre .1 .2, c .before .before .before .before .before .before .before .before .before .pre .1 .3)))  -- write-term-write-node-requires
+    (λ c κs. let at-record-at = c .before .before in let at-else2 = at-record-at .before in let at-else1 = at-else2 .before in let at-start = at-else1 .before .before .before .before .before in (omega arith, (record { sound = at-start .pre .1 .0; level = at-else1 .if1 .left; most = at-start .pre .1 .1; here = at-else2 .if2 .left; is = at-record-at .record-at .ensures }, at-start .pre .1 .2, at-start .pre .1 .3)))  -- write-term-write-node-requires
     (λ c. search needs)  -- write-term-same-length
     (λ c. search needs)  -- write-term-same-length-2
-    (λ c. c .before .before .before .before .write-node .ensures)  -- write-term-returns-3
+    (λ c. let at-write-node = c .before .before .before .before in at-write-node .write-node .ensures)  -- write-term-returns-3

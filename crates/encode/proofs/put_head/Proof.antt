@@ -4,8 +4,21 @@ use Rattle.octets.specs.Filling.{writing-start, writing-fits, writing-next, wri
 use Rattle.grammar.specs.Kinds.{rowAt}
 use Rattle.encode.specs.Terms.{ready-ops, head-framed}
 use borrow.Author.Needs.{needs}
+use Rattle.octets.specs.Known.{Known, known}
 use Rattle.encode.proofs.put_head.Statement.{statement}
 use Rattle.encode.proofs.put_head.Tie as tie
+
+-- what is known at a place: before the first writer, and after each
+abbrev w₀ : tie.After-boxed-len → Known
+w₀ c =
+    let at-start = c .before .before .before in
+    known (writing-start (at-start .args .out .now) (head-framed (rowAt (at-start .args .j)) _ (at-start .args .r .kids) (at-start .args .size) (c .boxed-len .ensures)) (at-start .pre .1))
+
+abbrev w₁ : tie.After-put-frame → Known
+w₁ c = known (writing-next (w₀ (c .before .before) .holds) (c .put-frame .ensures))
+
+abbrev w₂ : tie.After-put-before → Known
+w₂ c = known (writing-next (w₁ (c .before .before .before .before) .holds) (c .put-before .ensures))
 
 pub put-head-spec : {M : Type 1} → statement M
 put-head-spec =
@@ -15,13 +28,13 @@ put-head-spec =
     (λ c. search needs)  -- sub-put-frame
     (λ c. search needs)  -- part-put-frame-start
     (λ c. search needs)  -- part-put-frame-end
-    (λ c κs. (ready-ops (c .before .before .before .before .pre .0), writing-fits (writing-start (c .before .before .before .before .args .out .now) (head-framed (rowAt (c .before .before .before .before .args .j)) _ (c .before .before .before .before .args .r .kids) (c .before .before .before .before .args .size) (c .before .boxed-len .ensures)) (c .before .before .before .before .pre .1)), omega (arith, c .before .boxed-len .ensures .least, c .before .before .before .before .pre .2)))  -- put-frame-requires
+    (λ c κs. let at-start : tie.Start = search in (ready-ops (at-start .pre .0), writing-fits (w₀ (search) .holds), omega (arith, c .before .boxed-len .ensures .least, at-start .pre .2)))  -- put-frame-requires
     (λ c. search needs)  -- add-at
-    (λ c. omega (arith, writing-within (writing-next (writing-start (c .before .before .before .before .before .before .before .args .out .now) (head-framed (rowAt (c .before .before .before .before .before .before .before .args .j)) _ (c .before .before .before .before .before .before .before .args .r .kids) (c .before .before .before .before .before .before .before .args .size) (c .before .before .before .before .boxed-len .ensures)) (c .before .before .before .before .before .before .before .pre .1)) (c .before .before .put-frame .ensures))))  -- sub-put-before
-    (λ c. omega (arith, writing-within (writing-next (writing-start (c .before .before .before .before .before .before .before .args .out .now) (head-framed (rowAt (c .before .before .before .before .before .before .before .args .j)) _ (c .before .before .before .before .before .before .before .args .r .kids) (c .before .before .before .before .before .before .before .args .size) (c .before .before .before .before .boxed-len .ensures)) (c .before .before .before .before .before .before .before .pre .1)) (c .before .before .put-frame .ensures))))  -- part-put-before-start
+    (λ c. omega (arith, writing-within (w₁ (search) .holds)))  -- sub-put-before
+    (λ c. omega (arith, writing-within (w₁ (search) .holds)))  -- part-put-before-start
     (λ c. search needs)  -- part-put-before-end
-    (λ c κs. (c .before .before .before .before .before .before .before .before .pre .0 .fine, omega (arith, c .before .before .before .before .before .before .before .before .pre .0 .size), writing-fits (writing-next (writing-start (c .before .before .before .before .before .before .before .before .args .out .now) (head-framed (rowAt (c .before .before .before .before .before .before .before .before .args .j)) _ (c .before .before .before .before .before .before .before .before .args .r .kids) (c .before .before .before .before .before .before .before .before .args .size) (c .before .before .before .before .before .boxed-len .ensures)) (c .before .before .before .before .before .before .before .before .pre .1)) (c .before .before .before .put-frame .ensures))))  -- put-before-requires
-    (λ c. omega (arith, writing-within (writing-next (writing-next (writing-start (c .before .before .before .before .before .before .before .before .before .before .before .args .out .now) (head-framed (rowAt (c .before .before .before .before .before .before .before .before .before .before .before .args .j)) _ (c .before .before .before .before .before .before .before .before .before .before .before .args .r .kids) (c .before .before .before .before .before .before .before .before .before .before .before .args .size) (c .before .before .before .before .before .before .before .before .boxed-len .ensures)) (c .before .before .before .before .before .before .before .before .before .before .before .pre .1)) (c .before .before .before .before .before .before .put-frame .ensures)) (c .before .before .put-before .ensures)), writing-same (writing-next (writing-next (writing-start (c .before .before .before .before .before .before .before .before .before .before .before .args .out .now) (head-framed (rowAt (c .before .before .before .before .before .before .before .before .before .before .before .args .j)) _ (c .before .before .before .before .before .before .before .before .before .before .before .args .r .kids) (c .before .before .before .before .before .before .before .before .before .before .before .args .size) (c .before .before .before .before .before .before .before .before .boxed-len .ensures)) (c .before .before .before .before .before .before .before .before .before .before .before .pre .1)) (c .before .before .before .before .before .before .put-frame .ensures)) (c .before .before .put-before .ensures))))  -- add-at-2
-    (λ c. writing-same (writing-next (writing-next (writing-start (c .before .before .before .before .before .before .before .before .before .before .before .args .out .now) (head-framed (rowAt (c .before .before .before .before .before .before .before .before .before .before .before .args .j)) _ (c .before .before .before .before .before .before .before .before .before .before .before .args .r .kids) (c .before .before .before .before .before .before .before .before .before .before .before .args .size) (c .before .before .before .before .before .before .before .before .boxed-len .ensures)) (c .before .before .before .before .before .before .before .before .before .before .before .pre .1)) (c .before .before .before .before .before .before .put-frame .ensures)) (c .before .before .put-before .ensures)))  -- same-length
-    (λ c. writing-end (writing-next (writing-next (writing-start (c .before .before .before .before .before .before .before .before .before .before .before .args .out .now) (head-framed (rowAt (c .before .before .before .before .before .before .before .before .before .before .before .args .j)) _ (c .before .before .before .before .before .before .before .before .before .before .before .args .r .kids) (c .before .before .before .before .before .before .before .before .before .before .before .args .size) (c .before .before .before .before .before .before .before .before .boxed-len .ensures)) (c .before .before .before .before .before .before .before .before .before .before .before .pre .1)) (c .before .before .before .before .before .before .put-frame .ensures)) (c .before .before .put-before .ensures)))  -- returns
+    (λ c κs. let at-start : tie.Start = search in (at-start .pre .0 .fine, omega (arith, at-start .pre .0 .size), writing-fits (w₁ (search) .holds)))  -- put-before-requires
+    (λ c. omega (arith, w₂ (search) .holds))  -- add-at-2
+    (λ c. writing-same (w₂ (search) .holds))  -- same-length
+    (λ c. writing-end (w₂ (search) .holds))  -- returns
     )

@@ -1,13 +1,27 @@
 -- `path::put_path_text` meets its contract: the root mark and the segments make the text, where a path stands. Assumes nothing.
-use Prim.Native.Nat.{_+_, _-_}
 use native.Mathlib.Omega.{arith}
 use borrow.Author.Needs.{needs}
-use lib.ListN.{take, drop}
+use Rattle.octets.specs.Known.{Known, known}
 use Rattle.octets.specs.Reading.{got, got-none}
-use Rattle.octets.specs.Filling.{filling-start, filling-fits, filling-lent, last-fits, last-wrote, last-same}
-use Rattle.path.specs.PathWriting.{text-at, no-text}
+use Rattle.octets.specs.Filling.{writing-start, writing-fits, writing-next, writing-within, writing-same, writing-end}
+use Rattle.path.specs.PathWriting.{text-at, text-in-parts, no-text}
 use Rattle.path.proofs.put_path_text.Statement.{statement}
 use Rattle.path.proofs.put_path_text.Tie as tie
+
+-- the text that stands there, and the two writers in a row: before the first, and after each
+abbrev text : tie.After-root-at → Known
+text c = known (text-at (got (c .before .before .found .given .1) (c .before .before .before .before .path-at .ensures)) (c .root-at .ensures))
+
+abbrev w₀ : tie.After-root-at → Known
+w₀ c =
+    let at-start = c .before .before .before .before .before .before .before in
+    known (writing-start (at-start .args .out .now) (text-in-parts (text c .holds)) (at-start .pre))
+
+abbrev w₁ : tie.After-put-slice → Known
+w₁ c = known (writing-next (w₀ (c .before .before .before) .holds) (c .put-slice .ensures))
+
+abbrev w₂ : tie.After-put-parts → Known
+w₂ c = known (writing-next (w₁ (c .before .before .before .before) .holds) (c .put-parts .ensures))
 
 pub put-path-text-spec : {M : Type 1} → statement M
 put-path-text-spec =
@@ -16,26 +30,26 @@ put-path-text-spec =
     (λ c κs. search needs)  -- path-at-requires
     (λ c. search needs)  -- enum-known-found
     (λ c κs. search needs)  -- root-at-requires
-    (λ c. omega (arith, (text-at (got (c .before .before .found .given .1) (c .before .before .before .before .path-at .ensures)) (c .root-at .ensures)) .size))  -- sub-n
-    (λ c. let s = (text-at (got (c .before .before .found .given .1) (c .before .before .before .before .path-at .ensures)) (c .root-at .ensures)) in omega (arith, s .size, s .most))  -- add-n
-    (λ c. omega (arith, (text-at (got (c .before .before .found .given .1) (c .before .before .before .before .path-at .ensures)) (c .root-at .ensures)) .mark))  -- add-put-slice
+    (λ c. omega (arith, text c .holds))  -- sub-n
+    (λ c. omega (arith, text c .holds))  -- add-n
+    (λ c. omega (arith, text c .holds))  -- add-put-slice
     (λ c. search needs)  -- sub-put-slice
     (λ c. search needs)  -- part-put-slice-start
-    (λ c. (text-at (got (c .before .before .found .given .1) (c .before .before .before .before .path-at .ensures)) (c .root-at .ensures)) .mark)  -- part-put-slice-end
+    (λ c. text c .holds .mark)  -- part-put-slice-end
     (λ c. search needs)  -- sub-put-slice-2
     (λ c. search needs)  -- part-put-slice-start-2
     (λ c. search needs)  -- part-put-slice-end-2
-    (λ c κs. let d = c .before .before .before .before .before .before .before .before .before in filling-fits (take (d .args .at + c .before .before .root-at .result - d .args .at) (drop (d .args .at) (d .args .b .now))) _ (filling-start (d .args .out .now) ((text-at (got (c .before .before .before .before .found .given .1) (c .before .before .before .before .before .before .path-at .ensures)) (c .before .before .root-at .ensures)) .text) (d .pre)))  -- put-slice-requires
-    (λ c. let d = c .before .before .before .before .before .before .before in let h = (filling-lent _ _ (filling-start (d .before .before .before .before .before .args .out .now) ((text-at (got (d .found .given .1) (d .before .before .path-at .ensures)) (c .before .before .before .before .before .root-at .ensures)) .text) (d .before .before .before .before .before .pre)) (c .before .before .put-slice .ensures)) in omega (arith, h .within, h .len))  -- add-end
-    (λ c. let d = c .before .before .before .before .before in omega (arith, (text-at (got (d .before .before .found .given .1) (d .before .before .before .before .path-at .ensures)) (d .root-at .ensures)) .most))  -- mul-put-parts
-    (λ c. let d = c .before .before .before .before .before in (text-at (got (d .before .before .found .given .1) (d .before .before .before .before .path-at .ensures)) (d .root-at .ensures)) .behind)  -- sub-put-parts
-    (λ c. let d = c .before .before .before .before .before .before .before in (filling-lent _ _ (filling-start (d .before .before .before .before .before .args .out .now) ((text-at (got (d .found .given .1) (d .before .before .path-at .ensures)) (c .before .before .before .before .before .root-at .ensures)) .text) (d .before .before .before .before .before .pre)) (c .before .before .put-slice .ensures)) .within)  -- sub-put-parts-2
-    (λ c. let d = c .before .before .before .before .before .before .before in (filling-lent _ _ (filling-start (d .before .before .before .before .before .args .out .now) ((text-at (got (d .found .given .1) (d .before .before .path-at .ensures)) (c .before .before .before .before .before .root-at .ensures)) .text) (d .before .before .before .before .before .pre)) (c .before .before .put-slice .ensures)) .within)  -- part-put-parts-start
+    (λ c κs. writing-fits (w₀ (search) .holds))  -- put-slice-requires
+    (λ c. omega (arith, w₁ (search) .holds))  -- add-end
+    (λ c. omega (arith, text (search) .holds))  -- mul-put-parts
+    (λ c. text (search) .holds .behind)  -- sub-put-parts
+    (λ c. writing-within (w₁ (search) .holds))  -- sub-put-parts-2
+    (λ c. writing-within (w₁ (search) .holds))  -- part-put-parts-start
     (λ c. search needs)  -- part-put-parts-end
-    (λ c κs. let d = c .before .before .before .before .before .before in ((text-at (got (d .before .before .found .given .1) (d .before .before .before .before .path-at .ensures)) (d .root-at .ensures)) .least, (text-at (got (d .before .before .found .given .1) (d .before .before .before .before .path-at .ensures)) (d .root-at .ensures)) .there, last-fits (filling-lent _ _ (filling-start (d .before .before .before .before .before .before .before .args .out .now) ((text-at (got (d .before .before .found .given .1) (d .before .before .before .before .path-at .ensures)) (d .root-at .ensures)) .text) (d .before .before .before .before .before .before .before .pre)) (c .before .before .before .put-slice .ensures))))  -- put-parts-requires
-    (λ c. let d = c .before .before .before .before .before .before .before .before .before in let w = last-wrote (filling-lent _ _ (filling-start (d .before .before .before .before .before .before .before .args .out .now) ((text-at (got (d .before .before .found .given .1) (d .before .before .before .before .path-at .ensures)) (d .root-at .ensures)) .text) (d .before .before .before .before .before .before .before .pre)) (c .before .before .before .before .before .before .put-slice .ensures)) (c .before .before .put-parts .ensures) in omega (arith, w .count, d .before .before .before .before .before .before .before .pre))  -- add-end-2
+    (λ c κs. (text (search) .holds .least, text (search) .holds .there, writing-fits (w₁ (search) .holds)))  -- put-parts-requires
+    (λ c. omega (arith, w₂ (search) .holds))  -- add-end-2
     (λ c. search needs)  -- enum-told
-    (λ c. let d = c .before .before .before .before .before .before .before .before .before in last-same (filling-lent _ _ (filling-start (d .before .before .before .before .before .before .before .args .out .now) ((text-at (got (d .before .before .found .given .1) (d .before .before .before .before .path-at .ensures)) (d .root-at .ensures)) .text) (d .before .before .before .before .before .before .before .pre)) (c .before .before .before .before .before .before .put-slice .ensures)) (c .before .before .put-parts .ensures))  -- same-length
-    (λ c. let d = c .before .before .before .before .before .before .before .before .before in last-wrote (filling-lent _ _ (filling-start (d .before .before .before .before .before .before .before .args .out .now) ((text-at (got (d .before .before .found .given .1) (d .before .before .before .before .path-at .ensures)) (d .root-at .ensures)) .text) (d .before .before .before .before .before .before .before .pre)) (c .before .before .before .before .before .before .put-slice .ensures)) (c .before .before .put-parts .ensures))  -- returns
-    (λ c. no-text _ (got-none (c .enum-told .given .1) (c .before .before .path-at .ensures)))  -- returns-2
+    (λ c. writing-same (w₂ (search) .holds))  -- same-length
+    (λ c. writing-end (w₂ (search) .holds))  -- returns
+    (λ c. let at-path-at : tie.After-path-at = search in no-text _ (got-none (c .enum-told .given .1) (at-path-at .path-at .ensures)))  -- returns-2
     )

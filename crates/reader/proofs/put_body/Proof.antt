@@ -9,15 +9,15 @@ pub put-body-spec : {M : Type 1} → statement M
 put-body-spec =
     tie.close
     (tie.spec
-    (λ c. omega (arith, c .before .before .before .before .pre .1 .held .few))  -- mul-from
-    (λ c. body-front (c .before .before .before .before .pre .0) (c .before .before .before .before .pre .1 .held) (c .before .before .before .before .pre .1 .named) (c .before .before .before .before .args .out .now) (c .before .before .before .before .pre .1 .room))  -- sub-put-list
-    (λ c. body-front (c .before .before .before .before .pre .0) (c .before .before .before .before .pre .1 .held) (c .before .before .before .before .pre .1 .named) (c .before .before .before .before .args .out .now) (c .before .before .before .before .pre .1 .room))  -- part-put-list-start
+    (λ c. let at-start : tie.Start = search in omega (arith, at-start .pre .1 .held .few))  -- mul-from
+    (λ c. let at-start : tie.Start = search in body-front (at-start .pre .0) (at-start .pre .1 .held) (at-start .pre .1 .named) (at-start .args .out .now) (at-start .pre .1 .room))  -- sub-put-list
+    (λ c. let at-start : tie.Start = search in body-front (at-start .pre .0) (at-start .pre .1 .held) (at-start .pre .1 .named) (at-start .args .out .now) (at-start .pre .1 .room))  -- part-put-list-start
     (λ c. search needs)  -- part-put-list-end
-    (λ c κs. (c .before .before .before .before .before .pre .0 .few, c .before .before .before .before .before .pre .0 .fit, list-room (c .before .before .before .before .before .pre .0) (c .before .before .before .before .before .pre .1 .held) (c .before .before .before .before .before .pre .1 .named) (c .before .before .before .before .before .args .out .now) (c .before .before .before .before .before .pre .1 .room)))  -- put-list-requires
-    (λ c. omega (arith, body-to (c .before .before .before .before .before .before .before .before .pre .0) (c .before .before .before .before .before .before .before .before .pre .1 .held) (c .before .before .before .before .before .before .before .before .pre .1 .named) (c .before .before .before .before .before .before .before .before .args .out .now) (c .before .before .before .before .before .before .before .before .pre .1 .room) (c .before .before .put-list .ensures), c .before .before .before .before .before .before .before .before .good .1 .1 .1 .1 .1 .1 .0 .0))  -- add-to
-    (λ c κs. ready-walk (c .before .before .before .before .before .before .before .before .before .pre .0))  -- walk-terms-requires
-    (λ c κs. body-settles (c .before .before .before .before .before .before .before .before .before .before .before .before .before .pre .0) (c .before .before .before .before .before .before .before .before .before .before .before .before .before .pre .1 .held) (c .before .before .before .before .before .before .before .before .before .before .before .before .before .pre .1 .named) (c .before .before .before .before .before .before .before .before .before .before .before .before .before .args .out .now) (c .before .before .before .before .before .before .before .before .before .before .before .before .before .pre .1 .room) (c .before .before .before .before .before .before .before .put-list .ensures) (walk-left _ _ _ (c .before .before .before .walk-terms .ensures) (c .before .before .before .before .before .before .before .before .before .before .before .before .before .pre .1 .held)))  -- settle-requires
-    (λ c. omega (arith, body-to (c .before .before .before .before .before .before .before .before .before .before .before .before .before .before .before .before .pre .0) (c .before .before .before .before .before .before .before .before .before .before .before .before .before .before .before .before .pre .1 .held) (c .before .before .before .before .before .before .before .before .before .before .before .before .before .before .before .before .pre .1 .named) (c .before .before .before .before .before .before .before .before .before .before .before .before .before .before .before .before .args .out .now) (c .before .before .before .before .before .before .before .before .before .before .before .before .before .before .before .before .pre .1 .room) (c .before .before .before .before .before .before .before .before .before .before .put-list .ensures), c .before .before .before .before .before .before .before .before .before .before .before .before .before .before .before .before .good .1 .1 .1 .1 .1 .1 .0 .0))  -- add-result
-    (λ c. body-same (c .before .before .before .before .before .before .before .before .before .before .before .before .before .before .before .before .pre .0) (c .before .before .before .before .before .before .before .before .before .before .before .before .before .before .before .before .pre .1 .held) (c .before .before .before .before .before .before .before .before .before .before .before .before .before .before .before .before .pre .1 .named) (c .before .before .before .before .before .before .before .before .before .before .before .before .before .before .before .before .args .out .now) (c .before .before .before .before .before .before .before .before .before .before .before .before .before .before .before .before .pre .1 .room) (c .before .before .before .before .before .before .before .before .before .before .put-list .ensures) (walk-left _ _ _ (c .before .before .before .before .before .before .walk-terms .ensures) (c .before .before .before .before .before .before .before .before .before .before .before .before .before .before .before .before .pre .1 .held)) (c .before .before .settle .ensures))  -- same-length
-    (λ c. body-wrote (c .before .before .before .before .before .before .before .before .before .before .before .before .before .before .before .before .pre .0) (c .before .before .before .before .before .before .before .before .before .before .before .before .before .before .before .before .pre .1 .held) (c .before .before .before .before .before .before .before .before .before .before .before .before .before .before .before .before .pre .1 .named) (c .before .before .before .before .before .before .before .before .before .before .before .before .before .before .before .before .args .out .now) (c .before .before .before .before .before .before .before .before .before .before .before .before .before .before .before .before .pre .1 .room) (c .before .before .before .before .before .before .before .before .before .before .put-list .ensures) (walk-left _ _ _ (c .before .before .before .before .before .before .walk-terms .ensures) (c .before .before .before .before .before .before .before .before .before .before .before .before .before .before .before .before .pre .1 .held)) (c .before .before .settle .ensures))  -- returns
+    (λ c κs. let at-start : tie.Start = search in (at-start .pre .0 .few, at-start .pre .0 .fit, list-room (at-start .pre .0) (at-start .pre .1 .held) (at-start .pre .1 .named) (at-start .args .out .now) (at-start .pre .1 .room)))  -- put-list-requires
+    (λ c. let at-put-list = c .before .before in let at-start = at-put-list .before .before .before .before .before .before in omega (arith, body-to (at-start .pre .0) (at-start .pre .1 .held) (at-start .pre .1 .named) (at-start .args .out .now) (at-start .pre .1 .room) (at-put-list .put-list .ensures)))  -- add-to
+    (λ c κs. let at-start : tie.Start = search in ready-walk (at-start .pre .0))  -- walk-terms-requires
+    (λ c κs. let at-walk-terms = c .before .before .before in let at-put-list = at-walk-terms .before .before .before .before in let at-start = at-put-list .before .before .before .before .before .before in body-settles (at-start .pre .0) (at-start .pre .1 .held) (at-start .pre .1 .named) (at-start .args .out .now) (at-start .pre .1 .room) (at-put-list .put-list .ensures) (walk-left _ _ _ (at-walk-terms .walk-terms .ensures) (at-start .pre .1 .held)))  -- settle-requires
+    (λ c. let at-put-list = c .before .before .before .before .before .before .before .before .before .before in let at-start = at-put-list .before .before .before .before .before .before in omega (arith, body-to (at-start .pre .0) (at-start .pre .1 .held) (at-start .pre .1 .named) (at-start .args .out .now) (at-start .pre .1 .room) (at-put-list .put-list .ensures)))  -- add-result
+    (λ c. let at-settle = c .before .before in let at-walk-terms = at-settle .before .before .before .before in let at-put-list = at-walk-terms .before .before .before .before in let at-start = at-put-list .before .before .before .before .before .before in body-same (at-start .pre .0) (at-start .pre .1 .held) (at-start .pre .1 .named) (at-start .args .out .now) (at-start .pre .1 .room) (at-put-list .put-list .ensures) (walk-left _ _ _ (at-walk-terms .walk-terms .ensures) (at-start .pre .1 .held)) (at-settle .settle .ensures))  -- same-length
+    (λ c. let at-settle = c .before .before in let at-walk-terms = at-settle .before .before .before .before in let at-put-list = at-walk-terms .before .before .before .before in let at-start = at-put-list .before .before .before .before .before .before in body-wrote (at-start .pre .0) (at-start .pre .1 .held) (at-start .pre .1 .named) (at-start .args .out .now) (at-start .pre .1 .room) (at-put-list .put-list .ensures) (walk-left _ _ _ (at-walk-terms .walk-terms .ensures) (at-start .pre .1 .held)) (at-settle .settle .ensures))  -- returns
     )

@@ -3,8 +3,21 @@ use borrow.Author.Needs.{needs}
 use native.Mathlib.Omega.{arith}
 use Rattle.octets.specs.Filling.{writing-fits, writing-next, writing-within, writing-same, writing-end}
 use Rattle.repack.specs.PackLaws.{header-start}
+use Rattle.octets.specs.Known.{Known, known}
 use Rattle.reader.proofs.put_header.Statement.{statement}
 use Rattle.reader.proofs.put_header.Tie as tie
+
+-- what is known at a place: before the first writer, and after each
+abbrev w₁ : tie.After-put-head → Known
+w₁ c =
+    let at-start = c .before .before .before .before in
+    known (writing-next (header-start _ _ _ _ (at-start .args .out .now) (at-start .pre .3)) (c .put-head .ensures))
+
+abbrev w₂ : tie.After-put-identity → Known
+w₂ c = known (writing-next (w₁ (c .before .before .before .before) .holds) (c .put-identity .ensures))
+
+abbrev w₃ : tie.After-put-le → Known
+w₃ c = known (writing-next (w₂ (c .before .before .before .before) .holds) (c .put-le .ensures))
 
 pub put-header-spec : {M : Type 1} → statement M
 put-header-spec =
@@ -13,18 +26,18 @@ put-header-spec =
     (λ c. search needs)  -- sub-put-head
     (λ c. search needs)  -- part-put-head-start
     (λ c. search needs)  -- part-put-head-end
-    (λ c κs. (c .before .before .before .pre .1, c .before .before .before .pre .2, writing-fits (header-start _ _ _ _ (c .before .before .before .args .out .now) (c .before .before .before .pre .3))))  -- put-head-requires
-    (λ c. let h = (writing-next (header-start _ _ _ _ (c .before .before .before .before .before .before .args .out .now) (c .before .before .before .before .before .before .pre .3)) (c .before .before .put-head .ensures)) in omega (arith, writing-within h, writing-same h, c .before .before .before .before .before .before .good .1 .1 .1 .1 .0 .0))  -- add-at
-    (λ c. writing-within (writing-next (header-start _ _ _ _ (c .before .before .before .before .before .before .args .out .now) (c .before .before .before .before .before .before .pre .3)) (c .before .before .put-head .ensures)))  -- sub-put-identity
-    (λ c. writing-within (writing-next (header-start _ _ _ _ (c .before .before .before .before .before .before .args .out .now) (c .before .before .before .before .before .before .pre .3)) (c .before .before .put-head .ensures)))  -- part-put-identity-start
+    (λ c κs. let at-start : tie.Start = search in (at-start .pre .1, at-start .pre .2, writing-fits (header-start _ _ _ _ (at-start .args .out .now) (at-start .pre .3))))  -- put-head-requires
+    (λ c. let at-start : tie.Start = search in omega (arith, w₁ (search) .holds))  -- add-at
+    (λ c. writing-within (w₁ (search) .holds))  -- sub-put-identity
+    (λ c. writing-within (w₁ (search) .holds))  -- part-put-identity-start
     (λ c. search needs)  -- part-put-identity-end
-    (λ c κs. (c .before .before .before .before .before .before .before .pre .0, writing-fits (writing-next (header-start _ _ _ _ (c .before .before .before .before .before .before .before .args .out .now) (c .before .before .before .before .before .before .before .pre .3)) (c .before .before .before .put-head .ensures))))  -- put-identity-requires
-    (λ c. let h = (writing-next (writing-next (header-start _ _ _ _ (c .before .before .before .before .before .before .before .before .before .before .args .out .now) (c .before .before .before .before .before .before .before .before .before .before .pre .3)) (c .before .before .before .before .before .before .put-head .ensures)) (c .before .before .put-identity .ensures)) in omega (arith, writing-within h, writing-same h, c .before .before .before .before .before .before .before .before .before .before .good .1 .1 .1 .1 .0 .0))  -- add-at-2
-    (λ c. writing-within (writing-next (writing-next (header-start _ _ _ _ (c .before .before .before .before .before .before .before .before .before .before .args .out .now) (c .before .before .before .before .before .before .before .before .before .before .pre .3)) (c .before .before .before .before .before .before .put-head .ensures)) (c .before .before .put-identity .ensures)))  -- sub-put-le
-    (λ c. writing-within (writing-next (writing-next (header-start _ _ _ _ (c .before .before .before .before .before .before .before .before .before .before .args .out .now) (c .before .before .before .before .before .before .before .before .before .before .pre .3)) (c .before .before .before .before .before .before .put-head .ensures)) (c .before .before .put-identity .ensures)))  -- part-put-le-start
+    (λ c κs. let at-start : tie.Start = search in (at-start .pre .0, writing-fits (w₁ (search) .holds)))  -- put-identity-requires
+    (λ c. let at-start : tie.Start = search in omega (arith, w₂ (search) .holds))  -- add-at-2
+    (λ c. writing-within (w₂ (search) .holds))  -- sub-put-le
+    (λ c. writing-within (w₂ (search) .holds))  -- part-put-le-start
     (λ c. search needs)  -- part-put-le-end
-    (λ c κs. writing-fits (writing-next (writing-next (header-start _ _ _ _ (c .before .before .before .before .before .before .before .before .before .before .before .args .out .now) (c .before .before .before .before .before .before .before .before .before .before .before .pre .3)) (c .before .before .before .before .before .before .before .put-head .ensures)) (c .before .before .before .put-identity .ensures)))  -- put-le-requires
-    (λ c. let h = (writing-next (writing-next (writing-next (header-start _ _ _ _ (c .before .before .before .before .before .before .before .before .before .before .before .before .before .before .args .out .now) (c .before .before .before .before .before .before .before .before .before .before .before .before .before .before .pre .3)) (c .before .before .before .before .before .before .before .before .before .before .put-head .ensures)) (c .before .before .before .before .before .before .put-identity .ensures)) (c .before .before .put-le .ensures)) in omega (arith, writing-within h, writing-same h, c .before .before .before .before .before .before .before .before .before .before .before .before .before .before .good .1 .1 .1 .1 .0 .0))  -- add-at-3
-    (λ c. writing-same (writing-next (writing-next (writing-next (header-start _ _ _ _ (c .before .before .before .before .before .before .before .before .before .before .before .before .before .before .args .out .now) (c .before .before .before .before .before .before .before .before .before .before .before .before .before .before .pre .3)) (c .before .before .before .before .before .before .before .before .before .before .put-head .ensures)) (c .before .before .before .before .before .before .put-identity .ensures)) (c .before .before .put-le .ensures)))  -- same-length
-    (λ c. writing-end (writing-next (writing-next (writing-next (header-start _ _ _ _ (c .before .before .before .before .before .before .before .before .before .before .before .before .before .before .args .out .now) (c .before .before .before .before .before .before .before .before .before .before .before .before .before .before .pre .3)) (c .before .before .before .before .before .before .before .before .before .before .put-head .ensures)) (c .before .before .before .before .before .before .put-identity .ensures)) (c .before .before .put-le .ensures)))  -- returns
+    (λ c κs. writing-fits (w₂ (search) .holds))  -- put-le-requires
+    (λ c. let at-start : tie.Start = search in omega (arith, w₃ (search) .holds))  -- add-at-3
+    (λ c. writing-same (w₃ (search) .holds))  -- same-length
+    (λ c. writing-end (w₃ (search) .holds))  -- returns
     )

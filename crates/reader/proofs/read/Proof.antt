@@ -12,23 +12,23 @@ read-spec =
     (tie.spec
     (λ c κs. search needs)  -- lay-out-requires
     (λ c κs. search needs)  -- refused-requires
-    (λ c. read-unlaid _ _ _ (c .before .before .before .lay-out .ensures) (c .before .if1 .taken) (c .refused .ensures))  -- returns
-    (λ c κs. (omega arith, omega (arith, layout-within (c .before .before .before .before .before .before .args .file .now) (c .before .before .lay-out .ensures) (c .if1 .left))))  -- get-le-requires
+    (λ c. let at-lay-out : tie.After-lay-out = search in read-unlaid _ _ _ (at-lay-out .lay-out .ensures) (c .before .if1 .taken) (c .refused .ensures))  -- returns
+    (λ c κs. let at-lay-out = c .before .before in let at-start = at-lay-out .before .before .before .before in (omega arith, omega (arith, layout-within (at-start .args .file .now) (at-lay-out .lay-out .ensures) (c .if1 .left))))  -- get-le-requires
     (λ c κs. search needs)  -- refused-requires-2
-    (λ c. read-records _ _ _ (c .before .before .before .before .before .lay-out .ensures) (c .before .before .before .if1 .left) (c .before .before .get-le .ensures) (c .before .if2 .taken) (c .refused2 .ensures))  -- returns-2
-    (λ c. omega (arith, layout-within (c .before .before .before .before .before .before .before .before .args .file .now) (c .before .before .before .before .lay-out .ensures) (c .before .before .if1 .left)))  -- sub-arities
-    (λ c. omega (arith, layout-within (c .before .before .before .before .before .before .before .before .args .file .now) (c .before .before .before .before .lay-out .ensures) (c .before .before .if1 .left)))  -- part-arities-start
-    (λ c. omega (arith, layout-within (c .before .before .before .before .before .before .before .before .args .file .now) (c .before .before .before .before .lay-out .ensures) (c .before .before .if1 .left)))  -- part-arities-end
-    (λ c. omega (arith, layout-within (c .before .before .before .before .before .before .before .before .before .args .file .now) (c .before .before .before .before .before .lay-out .ensures) (c .before .before .before .if1 .left)))  -- sub-pool
-    (λ c. omega (arith, layout-within (c .before .before .before .before .before .before .before .before .before .args .file .now) (c .before .before .before .before .before .lay-out .ensures) (c .before .before .before .if1 .left)))  -- part-pool-start
+    (λ c. let at-get-le = c .before .before in let at-lay-out = at-get-le .before .before .before in read-records _ _ _ (at-lay-out .lay-out .ensures) (search) (at-get-le .get-le .ensures) (c .before .if2 .taken) (c .refused2 .ensures))  -- returns-2
+    (λ c. let at-else1 = c .before .before in let at-lay-out = at-else1 .before .before in let at-start = at-lay-out .before .before .before .before in omega (arith, layout-within (at-start .args .file .now) (at-lay-out .lay-out .ensures) (at-else1 .if1 .left)))  -- sub-arities
+    (λ c. let at-else1 = c .before .before in let at-lay-out = at-else1 .before .before in let at-start = at-lay-out .before .before .before .before in omega (arith, layout-within (at-start .args .file .now) (at-lay-out .lay-out .ensures) (at-else1 .if1 .left)))  -- part-arities-start
+    (λ c. let at-else1 = c .before .before in let at-lay-out = at-else1 .before .before in let at-start = at-lay-out .before .before .before .before in omega (arith, layout-within (at-start .args .file .now) (at-lay-out .lay-out .ensures) (at-else1 .if1 .left)))  -- part-arities-end
+    (λ c. let at-else1 = c .before .before .before in let at-lay-out = at-else1 .before .before in let at-start = at-lay-out .before .before .before .before in omega (arith, layout-within (at-start .args .file .now) (at-lay-out .lay-out .ensures) (at-else1 .if1 .left)))  -- sub-pool
+    (λ c. let at-else1 = c .before .before .before in let at-lay-out = at-else1 .before .before in let at-start = at-lay-out .before .before .before .before in omega (arith, layout-within (at-start .args .file .now) (at-lay-out .lay-out .ensures) (at-else1 .if1 .left)))  -- part-pool-start
     (λ c. search needs)  -- part-pool-end
     (λ c κs. search needs)  -- arities-fit-requires
     (λ c κs. search needs)  -- refused-requires-3
-    (λ c. read-unfit _ _ _ (c .before .before .before .before .before .before .before .before .before .lay-out .ensures) (c .before .before .before .before .before .before .before .if1 .left) (c .before .before .before .before .before .before .get-le .ensures) (c .before .before .before .before .before .if2 .left) (c .before .before .arities-fit .ensures) (c .before .if3 .taken) (c .refused3 .ensures))  -- returns-3
+    (λ c. let at-arities-fit = c .before .before in let at-get-le = at-arities-fit .before .before .before .before in let at-lay-out = at-get-le .before .before .before in read-unfit _ _ _ (at-lay-out .lay-out .ensures) (search) (at-get-le .get-le .ensures) (search) (at-arities-fit .arities-fit .ensures) (c .before .if3 .taken) (c .refused3 .ensures))  -- returns-3
     (λ c κs. search needs)  -- table-number-requires
     (λ c κs. search needs)  -- refused-requires-4
-    (λ c. read-unframed _ _ _ (c .before .before .before .before .before .before .before .before .before .before .before .lay-out .ensures) (c .before .before .before .before .before .before .before .before .before .if1 .left) (c .before .before .before .before .before .before .before .before .get-le .ensures) (c .before .before .before .before .before .before .before .if2 .left) (c .before .before .before .before .arities-fit .ensures) (c .before .before .before .if3 .left) (c .before .before .table-number .ensures) (c .before .if4 .taken) (c .refused4 .ensures))  -- returns-4
-    (λ c κs. read-ready _ _ (c .before .before .before .before .before .before .before .before .before .before .before .before .before .before .before .args .out .now) (c .before .before .before .before .before .before .before .before .before .before .before .lay-out .ensures) (c .before .before .before .before .before .before .before .before .before .if1 .left) (c .before .before .before .before .before .before .before .before .get-le .ensures) (c .before .before .before .before .before .before .before .if2 .left) (c .before .before .before .before .arities-fit .ensures) (c .before .before .before .if3 .left) (c .before .before .table-number .ensures) (c .before .if4 .left))  -- read-sections-requires
+    (λ c. let at-table-number = c .before .before in let at-arities-fit = at-table-number .before .before in let at-get-le = at-arities-fit .before .before .before .before in let at-lay-out = at-get-le .before .before .before in read-unframed _ _ _ (at-lay-out .lay-out .ensures) (search) (at-get-le .get-le .ensures) (search) (at-arities-fit .arities-fit .ensures) (search) (at-table-number .table-number .ensures) (c .before .if4 .taken) (c .refused4 .ensures))  -- returns-4
+    (λ c κs. let at-table-number = c .before .before in let at-arities-fit = at-table-number .before .before in let at-get-le = at-arities-fit .before .before .before .before in let at-lay-out = at-get-le .before .before .before in let at-start = at-lay-out .before .before .before .before in read-ready _ _ (at-start .args .out .now) (at-lay-out .lay-out .ensures) (search) (at-get-le .get-le .ensures) (search) (at-arities-fit .arities-fit .ensures) (search) (at-table-number .table-number .ensures) (c .before .if4 .left))  -- read-sections-requires
     (λ c. search needs)  -- same-length
-    (λ c. read-on _ _ _ (c .before .before .before .before .before .before .before .before .before .before .before .before .before .before .lay-out .ensures) (c .before .before .before .before .before .before .before .before .before .before .before .before .if1 .left) (c .before .before .before .before .before .before .before .before .before .before .before .get-le .ensures) (c .before .before .before .before .before .before .before .before .before .before .if2 .left) (c .before .before .before .before .before .before .before .arities-fit .ensures) (c .before .before .before .before .before .before .if3 .left) (c .before .before .before .before .before .table-number .ensures) (c .before .before .before .before .if4 .left) (c .before .before .read-sections .ensures))  -- returns-5
+    (λ c. let at-read-sections = c .before .before in let at-table-number = at-read-sections .before .before .before in let at-arities-fit = at-table-number .before .before in let at-get-le = at-arities-fit .before .before .before .before in let at-lay-out = at-get-le .before .before .before in read-on _ _ _ (at-lay-out .lay-out .ensures) (search) (at-get-le .get-le .ensures) (search) (at-arities-fit .arities-fit .ensures) (search) (at-table-number .table-number .ensures) (search) (at-read-sections .read-sections .ensures))  -- returns-5
     )

@@ -18,27 +18,27 @@ settle-spec =
     (tie.spec
     Inv-loop
     μ-loop
-    (λ c. moving-start (c .before .before .pre))  -- loop-holds
+    (λ c. let at-start : tie.Start Inv-loop μ-loop = search in moving-start (at-start .pre))  -- loop-holds
     (λ c. search needs)  -- sub-record-at
     (λ c. search needs)  -- part-record-at-start
-    (λ c. moving-room (c .before .before .loop .inv))  -- part-record-at-end
-    (λ c κs. moving-record (c .before .before .before .loop .inv) (c .before .before .loop-test .taken))  -- record-at-requires
-    (λ c. omega (arith, moving-small (c .before .before .before .before .loop .inv) (c .before .before .before .loop-test .taken) (c .record-at .ensures)))  -- add-placed-at
+    (λ c. let at-loop : tie.At-loop Inv-loop μ-loop = search in moving-room (at-loop .loop .inv))  -- part-record-at-end
+    (λ c κs. let at-loop : tie.At-loop Inv-loop μ-loop = search in moving-record (at-loop .loop .inv) (search))  -- record-at-requires
+    (λ c. let in-loop = c .before .before .before in let at-loop = in-loop .before in omega (arith, moving-small (at-loop .loop .inv) (in-loop .loop-test .taken) (c .record-at .ensures)))  -- add-placed-at
     (λ c κs. search needs)  -- placed-at-requires
-    (λ c. omega (arith, moving-pool (c .before .before .before .before .before .loop .inv) (c .before .before .before .before .loop-test .taken) (c .before .record-at .ensures), c .before .before .before .before .before .before .before .before .good .1 .1 .1 .1 .0 .0))  -- add-put-text
-    (λ c. omega (arith, moving-pool (c .before .before .before .before .before .loop .inv) (c .before .before .before .before .loop-test .taken) (c .before .record-at .ensures)))  -- sub-put-text
-    (λ c. omega (arith, moving-pool (c .before .before .before .before .before .loop .inv) (c .before .before .before .before .loop-test .taken) (c .before .record-at .ensures)))  -- part-put-text-start
+    (λ c. let in-loop = c .before .before .before .before in let at-loop = in-loop .before in let at-start = at-loop .before .before .before in omega (arith, moving-pool (at-loop .loop .inv) (in-loop .loop-test .taken) (c .before .record-at .ensures)))  -- add-put-text
+    (λ c. let in-loop = c .before .before .before .before in let at-loop = in-loop .before in omega (arith, moving-pool (at-loop .loop .inv) (in-loop .loop-test .taken) (c .before .record-at .ensures)))  -- sub-put-text
+    (λ c. let in-loop = c .before .before .before .before in let at-loop = in-loop .before in omega (arith, moving-pool (at-loop .loop .inv) (in-loop .loop-test .taken) (c .before .record-at .ensures)))  -- part-put-text-start
     (λ c. search needs)  -- part-put-text-end
-    (λ c κs. moving-fits (c .before .before .before .before .before .before .loop .inv) (c .before .before .before .before .before .loop-test .taken) (c .before .before .record-at .ensures))  -- put-text-requires
-    (λ c. omega (arith, moving-small (c .before .before .before .before .before .before .before .before .before .loop .inv) (c .before .before .before .before .before .before .before .before .loop-test .taken) (c .before .before .before .before .before .record-at .ensures), c .before .before .put-text .ensures .count))  -- add-at
-    (λ c. omega (arith, c .before .before .before .before .before .before .before .before .loop-test .taken, c .before .before .before .before .before .before .before .before .before .before .before .before .pre .few))  -- mul-put-record
-    (λ c. moving-place (c .before .before .before .before .before .before .before .before .before .loop .inv) (c .before .before .before .before .before .before .before .before .loop-test .taken) (c .before .before .before .before .before .record-at .ensures) (c .before .before .put-text .ensures))  -- sub-put-record
-    (λ c. moving-place (c .before .before .before .before .before .before .before .before .before .loop .inv) (c .before .before .before .before .before .before .before .before .loop-test .taken) (c .before .before .before .before .before .record-at .ensures) (c .before .before .put-text .ensures))  -- part-put-record-start
+    (λ c κs. let at-record-at = c .before .before in let at-loop = at-record-at .before .before .before .before in moving-fits (at-loop .loop .inv) (search) (at-record-at .record-at .ensures))  -- put-text-requires
+    (λ c. let at-put-text = c .before .before in let at-record-at = at-put-text .before .before .before in let in-loop = at-record-at .before .before .before in let at-loop = in-loop .before in omega (arith, moving-small (at-loop .loop .inv) (in-loop .loop-test .taken) (at-record-at .record-at .ensures), at-put-text .put-text .ensures .count))  -- add-at
+    (λ c. let in-loop = c .before .before .before .before .before .before .before .before in let at-start = in-loop .before .before .before .before in omega (arith, in-loop .loop-test .taken, at-start .pre .few))  -- mul-put-record
+    (λ c. let at-put-text = c .before .before in let at-record-at = at-put-text .before .before .before in let at-loop = at-record-at .before .before .before .before in moving-place (at-loop .loop .inv) (search) (at-record-at .record-at .ensures) (at-put-text .put-text .ensures))  -- sub-put-record
+    (λ c. let at-put-text = c .before .before in let at-record-at = at-put-text .before .before .before in let at-loop = at-record-at .before .before .before .before in moving-place (at-loop .loop .inv) (search) (at-record-at .record-at .ensures) (at-put-text .put-text .ensures))  -- part-put-record-start
     (λ c. search needs)  -- part-put-record-end
-    (λ c κs. moving-packs (c .before .before .before .before .before .before .before .before .before .before .loop .inv) (c .before .before .before .before .before .before .before .before .before .loop-test .taken) (c .before .before .before .before .before .before .record-at .ensures) (c .before .before .before .put-text .ensures) (c .before .before .before .before .before .placed-at .ensures))  -- put-record-requires
+    (λ c κs. let at-put-text = c .before .before .before in let at-placed-at = at-put-text .before .before in let at-record-at = at-placed-at .before in let at-loop = at-record-at .before .before .before .before in moving-packs (at-loop .loop .inv) (search) (at-record-at .record-at .ensures) (at-put-text .put-text .ensures) (at-placed-at .placed-at .ensures))  -- put-record-requires
     (λ c. search needs)  -- add-j
     (λ c. search needs)  -- loop-less
-    (λ c. moving-turn (c .before .before .before .before .before .before .before .before .before .before .before .before .before .loop .inv) (c .before .before .before .before .before .before .before .before .before .before .before .before .loop-test .taken) (c .before .before .before .before .before .before .before .before .before .record-at .ensures) (c .before .before .before .before .before .before .put-text .ensures) (c .before .before .before .before .before .before .before .before .placed-at .ensures) (c .before .before .put-record .ensures))  -- loop-again
+    (λ c. let at-put-record = c .before .before in let at-put-text = at-put-record .before .before .before .before in let at-placed-at = at-put-text .before .before in let at-record-at = at-placed-at .before in let at-loop = at-record-at .before .before .before .before in moving-turn (at-loop .loop .inv) (search) (at-record-at .record-at .ensures) (at-put-text .put-text .ensures) (at-placed-at .placed-at .ensures) (at-put-record .put-record .ensures))  -- loop-again
     (λ c. (c .before .loop .inv) .len)  -- same-length
     (λ c. moving-end (c .before .loop .inv) (c .loop-test .left))  -- returns
     )

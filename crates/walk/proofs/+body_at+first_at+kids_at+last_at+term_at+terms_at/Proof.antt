@@ -19,8 +19,9 @@ use Rattle.walk.specs.Steps.{first-none}
 use Rattle.walk.specs.Calls.{call-path}
 use Rattle.walk.specs.Cycle.{walkable-on, walkable-part, begins-normal, begins-inside, spans-bad, above-zero, body-as, term-zero, term-nowhere, term-none, term-whole, kids-no, kids-whole, first-unkept, first-few, first-whole, last-unkept, last-within, last-fieldless, last-few, last-whole}
 use Prim.Native.Nat.{ℕ, _<_}
-use borrow.Fn.Kinds.{In}
+use borrow.Fn.Kinds.{In, Out}
 use borrow.Fn.PlainCycle.{Measures, is, falls, and}
+use Rattle.octets.specs.Known.{Known, known}
 use Rattle.walk.proofs.body_at.Reads as body-at
 use Rattle.walk.proofs.body_at.Kinds as body-at-kinds
 use Rattle.walk.proofs.+body_at+first_at+kids_at+last_at+term_at+terms_at.Lts-body_at as body-at-lts
@@ -120,6 +121,64 @@ terms-at-Inv-loop b arities pool at row listed n levels i out₀ left₀ j₀ ne
 abbrev terms-at-μ-loop : terms-at-lts.MeasureT-loop
 terms-at-μ-loop b arities pool at row listed n levels i out₀ left₀ j₀ next₀ records₀ texts₀ out left j next records texts = left
 
+-- what is known at the places of `first_at`
+module _ (t : ℕ) where
+  abbrev first-at-claims : first-at-lts.Claims
+  first-at-claims = (fields-at-reads.Asked, fields-at-reads.Learnt, args-for-reads.Asked, args-for-reads.Learnt, kids-at-below t, kids-at.Post, place-record-reads.Asked, place-record-reads.Learnt, above-reads.Asked, above-reads.Learnt, bad-reads.Asked, bad-reads.Learnt)
+
+  abbrev At-first-at : (first-at-lts.Claims → In 4 first-at-kinds.ps → Out 4 first-at-kinds.ps first-at-kinds.r → Type 0) → Type 0
+  At-first-at Place = Place first-at-claims (first-at-at t) first-at.Post
+
+  abbrev first-at-taken₁ : At-first-at first-at-lts.After-len → Known
+  first-at-taken₁ c = known (taken (c .len .given .1) (c .before .before .fields-at .ensures))
+
+-- what is known at the places of `kids_at`
+module _ (t : ℕ) where
+  abbrev kids-at-claims : kids-at-lts.Claims
+  kids-at-claims = (number-at-reads.Asked, number-at-reads.Learnt, is-listed-reads.Asked, is-listed-reads.Learnt, terms-at-below t, terms-at.Post, is-counted-reads.Asked, is-counted-reads.Learnt, only-if-reads.Asked, only-if-reads.Learnt, bad-reads.Asked, bad-reads.Learnt)
+
+  abbrev At-kids-at : (kids-at-lts.Claims → In 4 kids-at-kinds.ps → Out 4 kids-at-kinds.ps kids-at-kinds.r → Type 0) → Type 0
+  At-kids-at Place = Place kids-at-claims (kids-at-at t) kids-at.Post
+
+  abbrev kids-at-got₁ : At-kids-at kids-at-lts.After-value → Known
+  kids-at-got₁ c = known (got (c .value .given .1) (c .before .before .number-at .ensures))
+
+-- what is known at the places of `last_at`
+module _ (t : ℕ) where
+  abbrev last-at-claims : last-at-lts.Claims
+  last-at-claims = (kids-at-below t, kids-at.Post, fields-at-reads.Asked, fields-at-reads.Learnt, place-record-reads.Asked, place-record-reads.Learnt, above-reads.Asked, above-reads.Learnt, bad-reads.Asked, bad-reads.Learnt)
+
+  abbrev At-last-at : (last-at-lts.Claims → In 4 last-at-kinds.ps → Out 4 last-at-kinds.ps last-at-kinds.r → Type 0) → Type 0
+  At-last-at Place = Place last-at-claims (last-at-at t) last-at.Post
+
+  abbrev last-at-taken₁ : At-last-at last-at-lts.After-len → Known
+  last-at-taken₁ c = known (taken (c .len .given .1) (c .before .before .fields-at .ensures))
+
+-- what is known at the places of `term_at`
+module _ (t : ℕ) where
+  abbrev term-at-claims : term-at-lts.Claims
+  term-at-claims = (bad-reads.Asked, bad-reads.Learnt, start-at-reads.Asked, start-at-reads.Learnt, row-at-reads.Asked, row-at-reads.Learnt, box-at-reads.Asked, box-at-reads.Learnt, body-at-below t, body-at.Post, either-reads.Asked, either-reads.Learnt, only-if-reads.Asked, only-if-reads.Learnt)
+
+  abbrev At-term-at : (term-at-lts.Claims → In 4 term-at-kinds.ps → Out 4 term-at-kinds.ps term-at-kinds.r → Type 0) → Type 0
+  At-term-at Place = Place term-at-claims (term-at-at t) term-at.Post
+
+  abbrev term-at-starts-row₁ : At-term-at term-at-lts.After-row-at → Known
+  term-at-starts-row₁ c = known (starts-row (c .before .before .start-at .ensures) (c .before .if2 .left) (c .row-at .ensures))
+
+  abbrev term-at-opened₁ : At-term-at term-at-lts.After-value → Known
+  term-at-opened₁ c = known (opened (c .value .given .1) (c .before .before .box-at .ensures))
+
+-- what is known at the places of `terms_at`
+module _ (t : ℕ) where
+  abbrev terms-at-claims : terms-at-lts.Claims
+  terms-at-claims = (is-more-reads.Asked, is-more-reads.Learnt, child-place-reads.Asked, child-place-reads.Learnt, term-at-below t, term-at.Post, either-reads.Asked, either-reads.Learnt)
+
+  abbrev At-terms-at : (terms-at-lts.Claims → In 4 terms-at-kinds.ps → Out 4 terms-at-kinds.ps terms-at-kinds.r → terms-at-lts.InvT-loop → terms-at-lts.MeasureT-loop → Type 0) → Type 0
+  At-terms-at Place = Place terms-at-claims (terms-at-at t) terms-at.Post terms-at-Inv-loop terms-at-μ-loop
+
+  abbrev terms-at-sym₁ : At-terms-at terms-at-lts.Then1 → Known
+  terms-at-sym₁ c = known (sym (c .before .is-more .ensures) ∙ c .if1 .taken)
+
 pub +body-at+first-at+kids-at+last-at+term-at+terms-at-spec : {M : Type 1} → statement M
 +body-at+first-at+kids-at+last-at+term-at+terms-at-spec =
     close μ-body-at μ-first-at μ-kids-at μ-last-at μ-term-at μ-terms-at (λ t. body-at-lts.spec (
@@ -130,166 +189,105 @@ pub +body-at+first-at+kids-at+last-at+term-at+terms-at-spec : {M : Type 1} → s
     )
     (body-at-at t)
     body-at.Post
-    (λ c κs. (omega arith, c .before .before .before .before .before .before .pre .1))  -- body-at-last-at-requires
+    (λ c κs. let at-start = c .before .before .before .before .before .before in (omega arith, at-start .pre .1))  -- body-at-last-at-requires
     (λ c. search needs)  -- body-at-same-length
-    (λ c. body-as _ _ _ _ _ (c .before .before .before .before .if1 .taken) (c .before .before .last-at .ensures))  -- body-at-returns
-    (λ c κs. (omega arith, c .before .before .before .before .before .before .pre .1))  -- body-at-first-at-requires
+    (λ c. let at-last-at = c .before .before in body-as _ _ _ _ _ (search) (at-last-at .last-at .ensures))  -- body-at-returns
+    (λ c κs. let at-start = c .before .before .before .before .before .before in (omega arith, at-start .pre .1))  -- body-at-first-at-requires
     (λ c. search needs)  -- body-at-same-length-2
-    (λ c. body-as _ _ _ _ _ (c .before .before .before .before .if1 .left) (c .before .before .first-at .ensures))  -- body-at-returns-2
+    (λ c. let at-first-at = c .before .before in body-as _ _ _ _ _ (search) (at-first-at .first-at .ensures))  -- body-at-returns-2
     )
-    (λ t. first-at-lts.spec (
-      fields-at-reads.Asked,
-      fields-at-reads.Learnt,
-      args-for-reads.Asked,
-      args-for-reads.Learnt,
-      kids-at-below t,
-      kids-at.Post,
-      place-record-reads.Asked,
-      place-record-reads.Learnt,
-      above-reads.Asked,
-      above-reads.Learnt,
-      bad-reads.Asked,
-      bad-reads.Learnt,
-    )
+    (λ t. first-at-lts.spec (first-at-claims t)
     (first-at-at t)
     first-at.Post
-    (λ c κs. (row-short _ (normal-row _ (c .before .before .before .before .pre .1 .1 .found)), c .before .before .before .before .pre .1 .0 .within))  -- first-at-fields-at-requires
+    (λ c κs. let at-start : At-first-at t first-at-lts.Start = search in (row-short _ (normal-row _ (at-start .pre .1 .1 .found)), at-start .pre .1 .0 .within))  -- first-at-fields-at-requires
     (λ c. search needs)  -- first-at-enum-known-len
-    (λ c κs. (c .before .before .before .before .before .before .before .before .pre .1 .0 .fit, λ e. call-path (c .before .before .before .before .before .before .before .before .pre .1 .1 .found) (taken (c .before .len .given .1) (c .before .before .before .fields-at .ensures)) e))  -- first-at-args-for-requires
-    (λ c. omega (arith, c .before .before .before .before .before .before .before .before .before .pre .1 .2))  -- first-at-add-kids-at
-    (λ c κs. (omega arith, (walkable-on (c .before .before .before .before .before .before .before .before .before .before .pre .1 .0) ((taken (c .before .before .before .len .given .1) (c .before .before .before .before .before .fields-at .ensures)) .high), omega (arith, c .before .before .before .before .before .before .before .before .before .before .pre .1 .2))))  -- first-at-kids-at-requires
-    (λ c. c .before .before .before .before .kids-at .ensures .0 .same)  -- first-at-same-length
-    (λ c. first-unkept _ _ _ (c .before .before .before .before .before .before .before .before .before .before .before .before .before .before .before .pre .1 .1) _ (c .before .before .before .before .before .before .before .before .before .before .before .before .before .before .before .pre .1 .0) _ _ (taken (c .before .before .before .before .before .before .before .before .len .given .1) (c .before .before .before .before .before .before .before .before .before .before .fields-at .ensures)) (c .before .before .before .before .before .before .args-for .ensures) (c .before .before .before .before .kids-at .ensures) (c .if1 .taken))  -- first-at-returns
+    (λ c κs. let at-start : At-first-at t first-at-lts.Start = search in (at-start .pre .1 .0 .fit, λ e. call-path (at-start .pre .1 .1 .found) (first-at-taken₁ t (search) .holds) e))  -- first-at-args-for-requires
+    (λ c. let at-start : At-first-at t first-at-lts.Start = search in omega (arith, at-start .pre .1 .2))  -- first-at-add-kids-at
+    (λ c κs. let at-start : At-first-at t first-at-lts.Start = search in (omega arith, (walkable-on (at-start .pre .1 .0) (first-at-taken₁ t (search) .holds .high), omega (arith, at-start .pre .1 .2))))  -- first-at-kids-at-requires
+    (λ c. let at-kids-at : At-first-at t first-at-lts.After-kids-at = search in at-kids-at .kids-at .ensures .0 .same)  -- first-at-same-length
+    (λ c. let at-kids-at = c .before .before .before .before in let at-args-for = at-kids-at .before .before in let at-len = at-args-for .before .before in let at-start = at-len .before .before .before .before .before .before .before in first-unkept _ _ _ (at-start .pre .1 .1) _ (at-start .pre .1 .0) _ _ (first-at-taken₁ t at-len .holds) (at-args-for .args-for .ensures) (at-kids-at .kids-at .ensures) (c .if1 .taken))  -- first-at-returns
     (λ c κs. search needs)  -- first-at-place-record-requires
-    (λ c κs. first-few _ _ _ (c .before .before .before .before .before .before .before .before .before .before .before .before .before .before .before .before .before .before .before .pre .1 .1) _ (c .before .before .before .before .before .before .before .before .before .before .before .before .before .before .before .before .before .before .before .pre .1 .0) _ _ (taken (c .before .before .before .before .before .before .before .before .before .before .before .before .len .given .1) (c .before .before .before .before .before .before .before .before .before .before .before .before .before .before .fields-at .ensures)) (c .before .before .before .before .before .before .before .before .before .before .args-for .ensures) (c .before .before .before .before .before .before .before .before .kids-at .ensures) (c .before .before .before .before .if1 .left))  -- first-at-above-requires
+    (λ c κs. let at-else1 = c .before .before .before .before in let at-kids-at = at-else1 .before .before .before .before in let at-args-for = at-kids-at .before .before in let at-len = at-args-for .before .before in let at-start = at-len .before .before .before .before .before .before .before in first-few _ _ _ (at-start .pre .1 .1) _ (at-start .pre .1 .0) _ _ (first-at-taken₁ t at-len .holds) (at-args-for .args-for .ensures) (at-kids-at .kids-at .ensures) (at-else1 .if1 .left))  -- first-at-above-requires
     (λ c. search needs)  -- first-at-enum-told
     (λ c κs. search needs)  -- first-at-bad-requires
-    (λ c. c .before .before .before .place-record .ensures .same ∙ c .before .before .before .before .before .before .before .before .before .kids-at .ensures .0 .same)  -- first-at-same-length-2
-    (λ c. first-whole _ _ _ (c .before .before .before .before .before .before .before .before .before .before .before .before .before .before .before .before .before .before .before .before .pre .1 .1) _ (c .before .before .before .before .before .before .before .before .before .before .before .before .before .before .before .before .before .before .before .before .pre .1 .0) _ _ (taken (c .before .before .before .before .before .before .before .before .before .before .before .before .before .len .given .1) (c .before .before .before .before .before .before .before .before .before .before .before .before .before .before .before .fields-at .ensures)) (c .before .before .before .before .before .before .before .before .before .before .before .args-for .ensures) (c .before .before .before .before .before .before .before .before .before .kids-at .ensures) (c .before .before .before .before .before .if1 .left) (c .before .before .before .place-record .ensures) (c .above .ensures))  -- first-at-returns-2
-    (λ c. first-none _ _ _ _ _ _ _ _ (c .bad .ensures) (taken-none (c .before .enum-told .given .1) (c .before .before .before .fields-at .ensures)))  -- first-at-returns-3
+    (λ c. let at-place-record = c .before .before .before in let at-kids-at = at-place-record .before .before .before .before .before .before in at-place-record .place-record .ensures .same ∙ at-kids-at .kids-at .ensures .0 .same)  -- first-at-same-length-2
+    (λ c. let at-place-record = c .before .before .before in let at-kids-at = at-place-record .before .before .before .before .before .before in let at-args-for = at-kids-at .before .before in let at-len = at-args-for .before .before in let at-start = at-len .before .before .before .before .before .before .before in first-whole _ _ _ (at-start .pre .1 .1) _ (at-start .pre .1 .0) _ _ (first-at-taken₁ t at-len .holds) (at-args-for .args-for .ensures) (at-kids-at .kids-at .ensures) (search) (at-place-record .place-record .ensures) (c .above .ensures))  -- first-at-returns-2
+    (λ c. let at-fields-at : At-first-at t first-at-lts.After-fields-at = search in first-none _ _ _ _ _ _ _ _ (c .bad .ensures) (taken-none (c .before .enum-told .given .1) (at-fields-at .fields-at .ensures)))  -- first-at-returns-3
     )
-    (λ t. kids-at-lts.spec (
-      number-at-reads.Asked,
-      number-at-reads.Learnt,
-      is-listed-reads.Asked,
-      is-listed-reads.Learnt,
-      terms-at-below t,
-      terms-at.Post,
-      is-counted-reads.Asked,
-      is-counted-reads.Learnt,
-      only-if-reads.Asked,
-      only-if-reads.Learnt,
-      bad-reads.Asked,
-      bad-reads.Learnt,
-    )
+    (λ t. kids-at-lts.spec (kids-at-claims t)
     (kids-at-at t)
     kids-at.Post
-    (λ c κs. c .before .before .before .before .pre .1 .0 .within)  -- kids-at-number-at-requires
+    (λ c κs. let at-start : At-kids-at t kids-at-lts.Start = search in at-start .pre .1 .0 .within)  -- kids-at-number-at-requires
     (λ c. search needs)  -- kids-at-enum-known-value
     (λ c κs. search needs)  -- kids-at-is-listed-requires
-    (λ c κs. (omega arith, (walkable-on (c .before .before .before .before .before .before .before .before .before .before .pre .1 .0) ((got (c .before .before .before .value .given .1) (c .before .before .before .before .before .number-at .ensures)) .high), c .before .before .before .before .before .before .before .before .before .before .pre .1 .1)))  -- kids-at-terms-at-requires
+    (λ c κs. let at-start : At-kids-at t kids-at-lts.Start = search in (omega arith, (walkable-on (at-start .pre .1 .0) (kids-at-got₁ t (search) .holds .high), at-start .pre .1 .1)))  -- kids-at-terms-at-requires
     (λ c κs. search needs)  -- kids-at-is-counted-requires
     (λ c κs. search needs)  -- kids-at-only-if-requires
     (λ c. search needs)  -- kids-at-enum-told
     (λ c κs. search needs)  -- kids-at-bad-requires
-    (λ c. c .before .before .before .before .terms-at .ensures .0 .same)  -- kids-at-same-length
-    (λ c. kids-whole _ _ _ _ _ _ (got (c .before .before .before .before .before .before .before .before .value .given .1) (c .before .before .before .before .before .before .before .before .before .before .number-at .ensures)) (c .before .before .before .before .before .before .is-listed .ensures) (c .before .before .before .before .terms-at .ensures) (c .before .is-counted .ensures) (c .only-if .ensures))  -- kids-at-returns
-    (λ c. kids-no _ _ _ _ _ _ (got-none (c .before .enum-told .given .1) (c .before .before .before .number-at .ensures)) (c .bad .ensures))  -- kids-at-returns-2
+    (λ c. let at-terms-at : At-kids-at t kids-at-lts.After-terms-at = search in at-terms-at .terms-at .ensures .0 .same)  -- kids-at-same-length
+    (λ c. let at-terms-at = c .before .before .before .before in let at-is-listed = at-terms-at .before .before in let at-value = at-is-listed .before .before in kids-whole _ _ _ _ _ _ (kids-at-got₁ t at-value .holds) (at-is-listed .is-listed .ensures) (at-terms-at .terms-at .ensures) (c .before .is-counted .ensures) (c .only-if .ensures))  -- kids-at-returns
+    (λ c. let at-number-at : At-kids-at t kids-at-lts.After-number-at = search in kids-no _ _ _ _ _ _ (got-none (c .before .enum-told .given .1) (at-number-at .number-at .ensures)) (c .bad .ensures))  -- kids-at-returns-2
     )
-    (λ t. last-at-lts.spec (
-      kids-at-below t,
-      kids-at.Post,
-      fields-at-reads.Asked,
-      fields-at-reads.Learnt,
-      place-record-reads.Asked,
-      place-record-reads.Learnt,
-      above-reads.Asked,
-      above-reads.Learnt,
-      bad-reads.Asked,
-      bad-reads.Learnt,
-    )
+    (λ t. last-at-lts.spec (last-at-claims t)
     (last-at-at t)
     last-at.Post
-    (λ c. omega (arith, c .before .before .before .before .pre .1 .2))  -- last-at-add-kids-at
-    (λ c κs. (omega arith, (c .before .before .before .before .before .pre .1 .0, omega (arith, c .before .before .before .before .before .pre .1 .2))))  -- last-at-kids-at-requires
-    (λ c. c .before .before .before .before .kids-at .ensures .0 .same)  -- last-at-same-length
-    (λ c. last-unkept _ _ _ (c .before .before .before .before .before .before .before .before .before .before .pre .1 .1) _ (c .before .before .before .before .before .before .before .before .before .before .pre .1 .0) _ _ (c .before .before .before .before .kids-at .ensures) (c .if1 .taken))  -- last-at-returns
-    (λ c κs. (row-short _ (normal-row _ (c .before .before .before .before .before .before .before .before .before .before .pre .1 .1 .found)), last-within _ _ (c .before .before .before .before .before .before .before .before .before .before .args .place) (c .before .before .before .before .before .before .before .before .before .before .pre .1 .1) _ (c .before .before .before .before .before .before .before .before .before .before .pre .1 .0) _ _ (c .before .before .before .before .kids-at .ensures) (c .if1 .left)))  -- last-at-fields-at-requires
+    (λ c. let at-start : At-last-at t last-at-lts.Start = search in omega (arith, at-start .pre .1 .2))  -- last-at-add-kids-at
+    (λ c κs. let at-start : At-last-at t last-at-lts.Start = search in (omega arith, (at-start .pre .1 .0, omega (arith, at-start .pre .1 .2))))  -- last-at-kids-at-requires
+    (λ c. let at-kids-at : At-last-at t last-at-lts.After-kids-at = search in at-kids-at .kids-at .ensures .0 .same)  -- last-at-same-length
+    (λ c. let at-kids-at = c .before .before .before .before in let at-start = at-kids-at .before .before .before .before .before .before in last-unkept _ _ _ (at-start .pre .1 .1) _ (at-start .pre .1 .0) _ _ (at-kids-at .kids-at .ensures) (c .if1 .taken))  -- last-at-returns
+    (λ c κs. let at-kids-at = c .before .before .before .before in let at-start = at-kids-at .before .before .before .before .before .before in (row-short _ (normal-row _ (at-start .pre .1 .1 .found)), last-within _ _ (at-start .args .place) (at-start .pre .1 .1) _ (at-start .pre .1 .0) _ _ (at-kids-at .kids-at .ensures) (c .if1 .left)))  -- last-at-fields-at-requires
     (λ c. search needs)  -- last-at-enum-known-len
     (λ c κs. search needs)  -- last-at-place-record-requires
-    (λ c κs. last-few _ _ (c .before .before .before .before .before .before .before .before .before .before .before .before .before .before .before .before .before .before .args .place) (c .before .before .before .before .before .before .before .before .before .before .before .before .before .before .before .before .before .before .pre .1 .1) _ (c .before .before .before .before .before .before .before .before .before .before .before .before .before .before .before .before .before .before .pre .1 .0) _ _ (c .before .before .before .before .before .before .before .before .before .before .before .before .kids-at .ensures) (c .before .before .before .before .before .before .before .before .if1 .left) (taken (c .before .before .before .before .before .len .given .1) (c .before .before .before .before .before .before .before .fields-at .ensures)))  -- last-at-above-requires
+    (λ c κs. let at-len = c .before .before .before .before .before in let at-kids-at = at-len .before .before .before .before .before .before .before in let at-start = at-kids-at .before .before .before .before .before .before in last-few _ _ (at-start .args .place) (at-start .pre .1 .1) _ (at-start .pre .1 .0) _ _ (at-kids-at .kids-at .ensures) (search) (last-at-taken₁ t at-len .holds))  -- last-at-above-requires
     (λ c. search needs)  -- last-at-enum-told
     (λ c κs. search needs)  -- last-at-bad-requires
-    (λ c. c .before .before .before .place-record .ensures .same ∙ c .before .before .before .before .before .before .before .before .before .before .before .before .before .kids-at .ensures .0 .same)  -- last-at-same-length-2
-    (λ c. last-whole _ _ _ (c .before .before .before .before .before .before .before .before .before .before .before .before .before .before .before .before .before .before .before .pre .1 .1) _ (c .before .before .before .before .before .before .before .before .before .before .before .before .before .before .before .before .before .before .before .pre .1 .0) _ _ (c .before .before .before .before .before .before .before .before .before .before .before .before .before .kids-at .ensures) (c .before .before .before .before .before .before .before .before .before .if1 .left) (taken (c .before .before .before .before .before .before .len .given .1) (c .before .before .before .before .before .before .before .before .fields-at .ensures)) (c .before .before .before .place-record .ensures) (c .above .ensures))  -- last-at-returns-2
-    (λ c. c .before .before .before .before .before .before .before .before .kids-at .ensures .0 .same)  -- last-at-same-length-3
-    (λ c. last-fieldless _ _ _ (c .before .before .before .before .before .before .before .before .before .before .before .before .before .before .pre .1 .1) _ (c .before .before .before .before .before .before .before .before .before .before .before .before .before .before .pre .1 .0) _ _ (c .before .before .before .before .before .before .before .before .kids-at .ensures) (c .before .before .before .before .if1 .left) (taken-none (c .before .enum-told .given .1) (c .before .before .before .fields-at .ensures)) (c .bad .ensures))  -- last-at-returns-3
+    (λ c. let at-place-record = c .before .before .before in let at-kids-at = at-place-record .before .before .before .before .before .before .before .before .before .before in at-place-record .place-record .ensures .same ∙ at-kids-at .kids-at .ensures .0 .same)  -- last-at-same-length-2
+    (λ c. let at-place-record = c .before .before .before in let at-len = at-place-record .before .before .before in let at-kids-at = at-len .before .before .before .before .before .before .before in let at-start = at-kids-at .before .before .before .before .before .before in last-whole _ _ _ (at-start .pre .1 .1) _ (at-start .pre .1 .0) _ _ (at-kids-at .kids-at .ensures) (search) (last-at-taken₁ t at-len .holds) (at-place-record .place-record .ensures) (c .above .ensures))  -- last-at-returns-2
+    (λ c. let at-kids-at : At-last-at t last-at-lts.After-kids-at = search in at-kids-at .kids-at .ensures .0 .same)  -- last-at-same-length-3
+    (λ c. let at-fields-at = c .before .before .before in let at-kids-at = at-fields-at .before .before .before .before .before in let at-start = at-kids-at .before .before .before .before .before .before in last-fieldless _ _ _ (at-start .pre .1 .1) _ (at-start .pre .1 .0) _ _ (at-kids-at .kids-at .ensures) (search) (taken-none (c .before .enum-told .given .1) (at-fields-at .fields-at .ensures)) (c .bad .ensures))  -- last-at-returns-3
     )
-    (λ t. term-at-lts.spec (
-      bad-reads.Asked,
-      bad-reads.Learnt,
-      start-at-reads.Asked,
-      start-at-reads.Learnt,
-      row-at-reads.Asked,
-      row-at-reads.Learnt,
-      box-at-reads.Asked,
-      box-at-reads.Learnt,
-      body-at-below t,
-      body-at.Post,
-      either-reads.Asked,
-      either-reads.Learnt,
-      only-if-reads.Asked,
-      only-if-reads.Learnt,
-    )
+    (λ t. term-at-lts.spec (term-at-claims t)
     (term-at-at t)
     term-at.Post
     (λ c κs. search needs)  -- term-at-bad-requires
-    (λ c. term-zero _ _ _ _ _ (c .before .before .before .before .before .before .pre .1 .0 .within) (c .before .if1 .taken) (c .bad .ensures))  -- term-at-returns
+    (λ c. let at-start : At-term-at t term-at-lts.Start = search in term-zero _ _ _ _ _ (at-start .pre .1 .0 .within) (c .before .if1 .taken) (c .bad .ensures))  -- term-at-returns
     (λ c κs. search needs)  -- term-at-start-at-requires
     (λ c κs. search needs)  -- term-at-bad-requires-2
-    (λ c. term-nowhere _ _ _ _ _ (c .before .before .before .before .before .before .before .before .pre .1 .0 .within) (c .before .before .before .if1 .left) (c .before .before .start-at .ensures) (c .before .if2 .taken) (c .bad2 .ensures))  -- term-at-returns-2
+    (λ c. let at-start-at = c .before .before in let at-start = at-start-at .before .before .before .before .before .before in term-nowhere _ _ _ _ _ (at-start .pre .1 .0 .within) (search) (at-start-at .start-at .ensures) (c .before .if2 .taken) (c .bad2 .ensures))  -- term-at-returns-2
     (λ c κs. search needs)  -- term-at-row-at-requires
-    (λ c. omega (arith, begins-inside (c .before .before .before .before .before .before .before .before .args .b .now) (c .before .before .before .before .before .before .before .before .args .at) (starts-row (c .before .before .start-at .ensures) (c .before .if2 .left) (c .row-at .ensures)) (c .before .before .before .before .before .before .before .before .pre .1 .0 .within), c .before .before .before .before .before .before .before .before .pre .1 .0 .most))  -- term-at-add-box-at
-    (λ c κs. begins-inside (c .before .before .before .before .before .before .before .before .args .b .now) (c .before .before .before .before .before .before .before .before .args .at) (starts-row (c .before .before .start-at .ensures) (c .before .if2 .left) (c .row-at .ensures)) (c .before .before .before .before .before .before .before .before .pre .1 .0 .within))  -- term-at-box-at-requires
+    (λ c. let at-start : At-term-at t term-at-lts.Start = search in omega (arith, begins-inside (at-start .args .b .now) (at-start .args .at) (term-at-starts-row₁ t c .holds) (at-start .pre .1 .0 .within), at-start .pre .1 .0 .most))  -- term-at-add-box-at
+    (λ c κs. let at-start : At-term-at t term-at-lts.Start = search in begins-inside (at-start .args .b .now) (at-start .args .at) (term-at-starts-row₁ t c .holds) (at-start .pre .1 .0 .within))  -- term-at-box-at-requires
     (λ c. search needs)  -- term-at-enum-known-value
-    (λ c. sym (length-take-le _ _ ((opened (c .before .before .value .given .1) (c .before .before .before .before .box-at .ensures)) .high)))  -- term-at-slice-aggregate-body-at
+    (λ c. sym (length-take-le _ _ (term-at-opened₁ t (search) .holds .high)))  -- term-at-slice-aggregate-body-at
     (λ c. search needs)  -- term-at-sub-body-at
-    (λ c κs. (omega (arith, above-zero _ (c .before .before .before .before .before .before .before .before .before .if1 .left)), (walkable-part (c .before .before .before .before .before .before .before .before .before .before .before .before .before .before .pre .1 .0) (opened (c .before .before .before .value .given .1) (c .before .before .before .before .before .box-at .ensures)), begins-normal (starts-row (c .before .before .before .before .before .before .before .before .start-at .ensures) (c .before .before .before .before .before .before .before .if2 .left) (c .before .before .before .before .before .before .row-at .ensures)), omega (arith, above-zero _ (c .before .before .before .before .before .before .before .before .before .if1 .left), c .before .before .before .before .before .before .before .before .before .before .before .before .before .before .pre .1 .1))))  -- term-at-body-at-requires
+    (λ c κs. let at-value = c .before .before .before in let at-row-at = at-value .before .before .before in let at-else1 = at-row-at .before .before .before in let at-start = at-else1 .before .before .before .before .before in (omega (arith, above-zero _ (at-else1 .if1 .left)), (walkable-part (at-start .pre .1 .0) (term-at-opened₁ t at-value .holds), begins-normal (term-at-starts-row₁ t at-row-at .holds), omega (arith, above-zero _ (at-else1 .if1 .left), at-start .pre .1 .1))))  -- term-at-body-at-requires
     (λ c κs. search needs)  -- term-at-either-requires
     (λ c κs. search needs)  -- term-at-only-if-requires
     (λ c. search needs)  -- term-at-enum-told
     (λ c κs. search needs)  -- term-at-bad-requires-3
-    (λ c. c .before .before .before .before .before .body-at .ensures .same)  -- term-at-same-length
-    (λ c. term-whole _ _ _ _ _ (c .before .before .before .before .before .before .before .before .before .before .before .before .before .before .before .before .before .before .before .before .pre .1 .0 .within) (c .before .before .before .before .before .before .before .before .before .before .before .before .before .before .before .if1 .left) (starts-row (c .before .before .before .before .before .before .before .before .before .before .before .before .before .before .start-at .ensures) (c .before .before .before .before .before .before .before .before .before .before .before .before .before .if2 .left) (c .before .before .before .before .before .before .before .before .before .before .before .before .row-at .ensures)) (opened (c .before .before .before .before .before .before .before .before .before .value .given .1) (c .before .before .before .before .before .before .before .before .before .before .before .box-at .ensures)) (c .before .before .before .before .before .body-at .ensures) (c .before .either .ensures) (c .only-if .ensures))  -- term-at-returns-3
-    (λ c. term-none _ _ _ _ _ (c .before .before .before .before .before .before .before .before .before .before .before .before .pre .1 .0 .within) (c .before .before .before .before .before .before .before .if1 .left) (starts-row (c .before .before .before .before .before .before .start-at .ensures) (c .before .before .before .before .before .if2 .left) (c .before .before .before .before .row-at .ensures)) (opened-none (c .before .enum-told .given .1) (c .before .before .before .box-at .ensures)) (c .bad3 .ensures))  -- term-at-returns-4
+    (λ c. let at-body-at : At-term-at t term-at-lts.After-body-at = search in at-body-at .body-at .ensures .same)  -- term-at-same-length
+    (λ c. let at-body-at = c .before .before .before .before .before in let at-value = at-body-at .before .before .before .before in let at-row-at = at-value .before .before .before in let at-else1 = at-row-at .before .before .before in let at-start = at-else1 .before .before .before .before .before in term-whole _ _ _ _ _ (at-start .pre .1 .0 .within) (at-else1 .if1 .left) (term-at-starts-row₁ t at-row-at .holds) (term-at-opened₁ t at-value .holds) (at-body-at .body-at .ensures) (c .before .either .ensures) (c .only-if .ensures))  -- term-at-returns-3
+    (λ c. let at-box-at = c .before .before .before in let at-row-at = at-box-at .before in let at-start = at-row-at .before .before .before .before .before .before .before .before in term-none _ _ _ _ _ (at-start .pre .1 .0 .within) (search) (term-at-starts-row₁ t at-row-at .holds) (opened-none (c .before .enum-told .given .1) (at-box-at .box-at .ensures)) (c .bad3 .ensures))  -- term-at-returns-4
     )
-    λ t. terms-at-lts.spec (
-      is-more-reads.Asked,
-      is-more-reads.Learnt,
-      child-place-reads.Asked,
-      child-place-reads.Learnt,
-      term-at-below t,
-      term-at.Post,
-      either-reads.Asked,
-      either-reads.Learnt,
-    )
+    λ t. terms-at-lts.spec (terms-at-claims t)
     (terms-at-at t)
     terms-at.Post
     terms-at-Inv-loop
     terms-at-μ-loop
-    (λ c. turning-start _ _ _ _ _ _ (c .before .before .before .before .pre .1 .0 .within))  -- terms-at-loop-holds
+    (λ c. let at-start : At-terms-at t terms-at-lts.Start = search in turning-start _ _ _ _ _ _ (at-start .pre .1 .0 .within))  -- terms-at-loop-holds
     (λ c κs. search needs)  -- terms-at-is-more-requires
     (λ c κs. search needs)  -- terms-at-child-place-requires
-    (λ c. omega (arith, c .before .before .before .loop .inv .few, c .before .before .before .loop .inv .within, c .before .before .before .before .before .before .before .before .pre .1 .0 .most, c .before .before .before .before .before .before .before .before .pre .1 .1))  -- terms-at-add-term-at
-    (λ c κs. (omega arith, (walkable-on (c .before .before .before .before .before .before .before .before .before .pre .1 .0) (c .before .before .before .before .loop .inv .within), omega (arith, c .before .before .before .before .loop .inv .few, c .before .before .before .before .loop .inv .within, c .before .before .before .before .before .before .before .before .before .pre .1 .0 .most, c .before .before .before .before .before .before .before .before .before .pre .1 .1))))  -- terms-at-term-at-requires
-    (λ c. c .before .before .before .before .term-at .ensures .0 .same ∙ c .before .before .before .before .before .before .before .before .before .loop .inv .same)  -- terms-at-same-length
-    (λ c. (turning-bad _ _ _ (c .before .before .before .before .before .before .before .before .before .loop .inv) (sym (c .before .before .before .before .before .before .before .before .is-more .ensures) ∙ c .before .before .before .before .before .before .before .if1 .taken) (rw (c .before .before .before .before .before .before .child-place .ensures) at (c .before .before .before .before .term-at .ensures .0)) (not-true _ (c .if2 .taken)), spans-bad (not-true _ (c .if2 .taken))))  -- terms-at-returns
-    (λ c. omega (arith, c .before .before .before .before .before .before .before .before .before .before .loop .inv .few, c .before .before .before .before .before .term-at .ensures .1 .few (not-false _ (c .before .if2 .left)), c .before .before .before .before .before .term-at .ensures .0 .good (not-false _ (c .before .if2 .left)) .high, c .before .before .before .before .before .before .before .before .before .before .before .before .before .before .before .pre .1 .0 .most))  -- terms-at-add-records
-    (λ c. omega (arith, c .before .before .before .before .before .before .before .before .before .before .before .loop .inv .short, c .before .before .before .before .before .before .term-at .ensures .1 .short (not-false _ (c .before .before .if2 .left)), c .before .before .before .before .before .before .term-at .ensures .0 .good (not-false _ (c .before .before .if2 .left)) .high, c .before .before .before .before .before .before .before .before .before .before .before .before .before .before .before .before .pre .1 .0 .most))  -- terms-at-add-texts
-    (λ c. omega (arith, c .before .before .before .before .before .before .before .before .before .before .before .loop .inv .sum, turns _ _ _ _ (sym (c .before .before .before .before .before .before .before .before .before .before .is-more .ensures) ∙ c .before .before .before .before .before .before .before .before .before .if1 .taken), c .before .before .before .before .before .before .before .before .before .before .before .before .before .before .before .before .fits .n .fits))  -- terms-at-add-j
-    (λ c. omega (arith, turns _ _ _ _ (sym (c .before .before .before .before .before .before .before .before .before .before .is-more .ensures) ∙ c .before .before .before .before .before .before .before .before .before .if1 .taken)))  -- terms-at-sub-left
-    (λ c. omega (arith, turns _ _ _ _ (sym (c .before .before .before .before .before .before .before .before .before .before .is-more .ensures) ∙ c .before .before .before .before .before .before .before .before .before .if1 .taken)))  -- terms-at-loop-less
-    (λ c. turning-next _ _ _ (c .before .before .before .before .before .before .before .before .before .before .before .loop .inv) (sym (c .before .before .before .before .before .before .before .before .before .before .is-more .ensures) ∙ c .before .before .before .before .before .before .before .before .before .if1 .taken) (rw (c .before .before .before .before .before .before .before .before .child-place .ensures) at (c .before .before .before .before .before .before .term-at .ensures .0)) (c .before .before .before .before .before .before .term-at .ensures .1) (not-false _ (c .before .before .if2 .left)))  -- terms-at-loop-again
+    (λ c. let at-loop = c .before .before .before in let at-start = at-loop .before .before .before .before .before in omega (arith, at-loop .loop .inv .few, at-loop .loop .inv .within, at-start .pre .1 .0 .most, at-start .pre .1 .1))  -- terms-at-add-term-at
+    (λ c κs. let at-loop = c .before .before .before .before in let at-start = at-loop .before .before .before .before .before in (omega arith, (walkable-on (at-start .pre .1 .0) (at-loop .loop .inv .within), omega (arith, at-loop .loop .inv .few, at-loop .loop .inv .within, at-start .pre .1 .0 .most, at-start .pre .1 .1))))  -- terms-at-term-at-requires
+    (λ c. let at-term-at = c .before .before .before .before in let at-loop = at-term-at .before .before .before .before .before in at-term-at .term-at .ensures .0 .same ∙ at-loop .loop .inv .same)  -- terms-at-same-length
+    (λ c. let at-term-at = c .before .before .before .before in let at-child-place = at-term-at .before .before in let at-then1 = at-child-place .before in let at-loop = at-then1 .before .before in (turning-bad _ _ _ (at-loop .loop .inv) (terms-at-sym₁ t at-then1 .holds) (rw (at-child-place .child-place .ensures) at (at-term-at .term-at .ensures .0)) (not-true _ (c .if2 .taken)), spans-bad (not-true _ (c .if2 .taken))))  -- terms-at-returns
+    (λ c. let at-term-at = c .before .before .before .before .before in let at-loop = at-term-at .before .before .before .before .before in let at-start = at-loop .before .before .before .before .before in omega (arith, at-loop .loop .inv .few, at-term-at .term-at .ensures .1 .few (not-false _ (c .before .if2 .left)), at-term-at .term-at .ensures .0 .good (not-false _ (c .before .if2 .left)) .high, at-start .pre .1 .0 .most))  -- terms-at-add-records
+    (λ c. let at-term-at = c .before .before .before .before .before .before in let at-loop = at-term-at .before .before .before .before .before in let at-start = at-loop .before .before .before .before .before in omega (arith, at-loop .loop .inv .short, at-term-at .term-at .ensures .1 .short (not-false _ (search)), at-term-at .term-at .ensures .0 .good (not-false _ (search)) .high, at-start .pre .1 .0 .most))  -- terms-at-add-texts
+    (λ c. let at-then1 = c .before .before .before .before .before .before .before .before .before in let at-loop = at-then1 .before .before in let at-start = at-loop .before .before .before .before .before in omega (arith, at-loop .loop .inv .sum, turns _ _ _ _ (terms-at-sym₁ t at-then1 .holds), at-start .fits .n .fits))  -- terms-at-add-j
+    (λ c. omega (arith, turns _ _ _ _ (terms-at-sym₁ t (search) .holds)))  -- terms-at-sub-left
+    (λ c. omega (arith, turns _ _ _ _ (terms-at-sym₁ t (search) .holds)))  -- terms-at-loop-less
+    (λ c. let at-term-at = c .before .before .before .before .before .before in let at-child-place = at-term-at .before .before in let at-then1 = at-child-place .before in let at-loop = at-then1 .before .before in turning-next _ _ _ (at-loop .loop .inv) (terms-at-sym₁ t at-then1 .holds) (rw (at-child-place .child-place .ensures) at (at-term-at .term-at .ensures .0)) (at-term-at .term-at .ensures .1) (not-false _ (search)))  -- terms-at-loop-again
     (λ c κs. search needs)  -- terms-at-either-requires
-    (λ c. c .before .before .before .loop .inv .same)  -- terms-at-same-length-2
-    (λ c. (turning-end _ _ _ (c .before .before .before .loop .inv) (sym (c .before .before .is-more .ensures) ∙ c .before .if1 .left) (c .either .ensures) refl refl refl refl, turning-spans _ _ _ (c .before .before .before .loop .inv) refl refl refl))  -- terms-at-returns-2
+    (λ c. let at-loop : At-terms-at t terms-at-lts.At-loop = search in at-loop .loop .inv .same)  -- terms-at-same-length-2
+    (λ c. let at-is-more = c .before .before in let at-loop = at-is-more .before in (turning-end _ _ _ (at-loop .loop .inv) (sym (at-is-more .is-more .ensures) ∙ c .before .if1 .left) (c .either .ensures) refl refl refl refl, turning-spans _ _ _ (at-loop .loop .inv) refl refl refl))  -- terms-at-returns-2
