@@ -4,7 +4,7 @@ ghost use mathlib.Core.Bool.{true};
 ghost use Prim.Native.Nat.{_/_, _<_, _≤_};
 ghost use lib.ListN.{length, take, drop};
 ghost use Rattle.octets.specs.Reading.{Got};
-ghost use Rattle.path.specs.Path.{getPathLength, pathText};
+ghost use Rattle.path.specs.Get.{getPathLength, pathText};
 ghost use Rattle.path.specs.PathSpelled.{spelled};
 ghost use Rattle.arity.specs.Arity.{entryAt, below, entryFits, aritiesFit, argsOf};
 ghost use Rattle.arity.specs.ArityLaws.{fitsBehind};

@@ -15,24 +15,17 @@ use Rattle.grammar.specs.declared.Place.{Place}
 use Rattle.grammar.specs.declared.Place.the-variants.{InList}
 use Rattle.grammar.specs.declared.Row.{Row}
 use Rattle.grammar.specs.Kinds.{stands, childPlace, counts, argsAt, rowOf, rowIn}
-use Rattle.grammar.specs.Forest.{Forest, nil, node, count, join, Term, split, build}
-use Rattle.grammar.specs.ForestLaws.{split-join, split-only}
+use Rattle.grammar.specs.Forest.{Forest, nil, node, count, Term, split, build}
+use Rattle.grammar.specs.ForestLaws.{join, split-join, split-only}
 use Rattle.fields.specs.Fields.{inRange, spelled}
 use Rattle.tree.specs.Fits.{fine, known, termFits, Fits}
 use Rattle.term.specs.declared.Record.{Record}
 use Rattle.term.specs.Record.{recordsFrom}
 use Rattle.term.specs.File.{layoutOf}
-use Rattle.arity.specs.Arity.{aritiesFit}
-use Rattle.arity.specs.Arity.{argsOf}
+use Rattle.arity.specs.Arity.{aritiesFit, argsOf}
 use Rattle.checker.specs.declared.Verdict.{Verdict}
 use Rattle.checker.specs.Refusal.{verdict, textOf, inPool, placeFault, fault, faultAs, faultOf, Owed, owe, next, later, kidsOf, scan, recordSection, aritySection, poolSection, refusalOf}
-
--- ── A file's forest
-unfoldable pub termOf : List ℕ → Record → Term
-termOf pool r = record { kind = r .kind; fields = record { text = textOf pool r; a = r .a; x = r .x }; kids = r .kids }
-
-unfoldable pub forestOf : List ℕ → Option Forest
-forestOf f = build (map (termOf (poolSection f)) (recordsFrom (recordSection f) 0))
+use Rattle.checker.specs.Described.{forestOf, termOf}
 
 unfoldable pub InPool : List ℕ → List Record → Type 0
 InPool pool [] = Unit {0}

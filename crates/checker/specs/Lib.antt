@@ -3,3 +3,4 @@ pub mod Walk
 pub mod WalkLaws
 pub mod FaultLaws
 pub mod Accepted
+pub mod Described

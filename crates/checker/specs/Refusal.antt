@@ -93,7 +93,7 @@ aritySection f = part f (layoutOf f .arities) (layoutOf f .pool)
 abbrev pub poolSection : List ℕ → List ℕ
 poolSection f = part f (layoutOf f .pool) (length f)
 
--- 0 is accepted
+-- 0: none of 1 to 10 holds
 unfoldable pub refusalOf : List ℕ → Verdict
 refusalOf f =
     cond (not (eqb (layoutOf f .number) 0)) (verdict (layoutOf f .number) 0)

@@ -1,4 +1,4 @@
-// Whether a term file is accepted: refusals 1 to 10, with the record at which the fault was found.
+// Refusals 1 to 10 of a term file, with the record at which the fault was found.
 ghost use mathlib.Core.Path.{_≡_};
 ghost use mathlib.Core.Bool.{true};
 ghost use mathlib.Core.List.{[]};
@@ -11,7 +11,7 @@ ghost use Rattle.checker.specs.Refusal.{textOf, inPool, placeFault, faul
 ghost use Rattle.checker.specs.Walk.{kids, check};
 ghost use Rattle.checker.specs.WalkLaws.{Told};
 
-// A refusal's number and the record at which it was found; 0 is accepted.
+// A refusal's number and the record at which it was found; 0: none of 1 to 10 holds.
 pub struct Verdict {
     pub number: u32,
     pub index: u64,

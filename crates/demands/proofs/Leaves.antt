@@ -12,11 +12,13 @@ use Rattle.octets.specs.Laws.{le-exact}
 use Rattle.octets.specs.Reading.{Reads, got, reads-of-put, put-of-reads}
 use Rattle.octets.specs.declared.Num.{Num}
 use Rattle.octets.specs.declared.Num.the-variants as num
-use Rattle.number.specs.Integer.{integer, getInteger}
+use Rattle.number.specs.Integer.{integer}
+use Rattle.number.specs.Get.{getInteger, getPkgLength}
 use Rattle.number.specs.IntegerLaws.{integer-exact}
-use Rattle.number.specs.PkgLength.{createPkgLength, getPkgLength, largest}
+use Rattle.number.specs.PkgLength.{createPkgLength, largest}
 use Rattle.number.specs.PkgLengthLaws.{pkg-length-exact}
-use Rattle.path.specs.Path.{isPath, pathBytes, pathText, getPathLength}
+use Rattle.path.specs.Path.{isPath, pathBytes}
+use Rattle.path.specs.Get.{pathText, getPathLength}
 use Rattle.path.specs.PathCode.{text-read, path-read-only, path-read-back, path-text-back}
 
 -- what `put` writes for a good v is read by `get`, wherever it stands in b

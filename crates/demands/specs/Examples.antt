@@ -1,26 +1,39 @@
 -- The examples of document 01 that are marked + ("Bytes to check against"), as one table: what is encoded, and the bytes.
--- Assumes nothing.
+-- Terms are encoded as a file's are: by the bytes of their normal form.
 use mathlib.Core.List.{List, [], _∷_}
 use Prim.Native.Nat.{ℕ}
+use lib.ListN.{drop, replicate}
 use Rattle.number.specs.Integer.{integer}
 use Rattle.number.specs.PkgLength.{pkgLength, fieldLength}
-use Rattle.number.specs.Buffer.{boxed}
-use Rattle.ident.specs.Ident.{eisaName}
-use Rattle.descriptor.specs.Template.{template}
+use Rattle.grammar.specs.Forest.{Forest, nil, node}
+use Rattle.tree.specs.Normal.{norm}
+use Rattle.tree.specs.Bytes.{bytes}
+use Rattle.term.specs.File.{identity}
+use Rattle.sdt.specs.declared.Sdt.{Sdt}
+use Rattle.sdt.specs.Edit.{Outcome, newOf, appendOf, writeOf}
 
 pub data Input : Type 0 where
   int body fieldEntry : ℕ → Input
-  eisa : List ℕ → Input
-  resources : List ℕ → Input  -- the template of descriptors with these bytes
-  elements : ℕ → List ℕ → Input  -- the package of so many elements with these bytes
+  term : Forest → Input
 
 unfoldable pub encoded : Input → List ℕ
 encoded (int x) = integer x
 encoded (body n) = pkgLength n
 encoded (fieldEntry n) = fieldLength n
-encoded (eisa t) = eisaName t
-encoded (resources ds) = template ds
-encoded (elements n es) = boxed 0x12 (n ∷ es)
+encoded (term f) = bytes (norm f)
+
+-- one term of a kind, with its text and no children
+abbrev pub alone : ℕ → List ℕ → Forest
+alone kind text = node kind (record { text = text; a = 0; x = 0 }) nil nil
+
+abbrev pub eisaTerm : List ℕ → Forest
+eisaTerm text = alone 0xE001 text
+
+abbrev pub emptyTemplate : Forest
+emptyTemplate = alone 0xE003 []
+
+abbrev pub emptyPackage : Forest
+emptyPackage = alone 0x12 []
 
 -- PNP0501 and PNP0000
 abbrev pub pnp0501 : List ℕ
@@ -42,10 +55,10 @@ examples =
     ∷ (body 4094, 0x81 ∷ 0x00 ∷ 0x01 ∷ [])
     ∷ (body 1048573, 0xC1 ∷ 0x00 ∷ 0x00 ∷ 0x01 ∷ [])
     ∷ (fieldEntry 63, 0x4F ∷ 0x03 ∷ [])
-    ∷ (eisa pnp0501, 0x0C ∷ 0x41 ∷ 0xD0 ∷ 0x05 ∷ 0x01 ∷ [])
-    ∷ (eisa pnp0000, 0x0B ∷ 0x41 ∷ 0xD0 ∷ [])
-    ∷ (resources [], 0x11 ∷ 0x05 ∷ 0x0A ∷ 0x02 ∷ 0x79 ∷ 0x00 ∷ [])
-    ∷ (elements 0 [], 0x12 ∷ 0x02 ∷ 0x00 ∷ [])
+    ∷ (term (eisaTerm pnp0501), 0x0C ∷ 0x41 ∷ 0xD0 ∷ 0x05 ∷ 0x01 ∷ [])
+    ∷ (term (eisaTerm pnp0000), 0x0B ∷ 0x41 ∷ 0xD0 ∷ [])
+    ∷ (term emptyTemplate, 0x11 ∷ 0x05 ∷ 0x0A ∷ 0x02 ∷ 0x79 ∷ 0x00 ∷ [])
+    ∷ (term emptyPackage, 0x12 ∷ 0x02 ∷ 0x00 ∷ [])
     ∷ []
 
 -- ── "Whole": records Name FOO_, integer 1
@@ -66,3 +79,32 @@ wholeTable =
     ∷ 0x00 ∷ 0x00 ∷ 0x00 ∷ 0x00 ∷ 0x00 ∷ 0x00 ∷ 0x00 ∷ 0x00 ∷ 0x00 ∷ 0x00 ∷ 0x00 ∷ 0x00 ∷ 0x00 ∷ 0x00 ∷ 0x00 ∷ 0x00
     ∷ 0x00 ∷ 0x00 ∷ 0x00 ∷ 0x00 ∷ 0x08 ∷ 0x46 ∷ 0x4F ∷ 0x4F ∷ 0x5F ∷ 0x01
     ∷ []
+
+-- a file without records or arities, as reading takes its arity list
+abbrev pub noRecords : List ℕ
+noRecords =
+    0x54 ∷ 0x45 ∷ 0x52 ∷ 0x4D ∷ 0x00 ∷ 0x00 ∷ 0x00 ∷ 0x00 ∷ 0x3C ∷ 0x00 ∷ 0x00 ∷ 0x00 ∷ 0x00 ∷ 0x00 ∷ 0x00 ∷ 0x00
+    ∷ 0x3C ∷ 0x00 ∷ 0x00 ∷ 0x00 ∷ 0x00 ∷ 0x00 ∷ 0x00 ∷ 0x00 ∷ 0x3C ∷ 0x00 ∷ 0x00 ∷ 0x00 ∷ 0x00 ∷ 0x00 ∷ 0x00 ∷ 0x00
+    ∷ 0x00 ∷ 0x00 ∷ 0x00 ∷ 0x00 ∷ 0x00 ∷ 0x00 ∷ 0x00 ∷ 0x00 ∷ 0x00 ∷ 0x00 ∷ 0x00 ∷ 0x00 ∷ 0x00 ∷ 0x00 ∷ 0x00 ∷ 0x00
+    ∷ 0x00 ∷ 0x00 ∷ 0x00 ∷ 0x00 ∷ 0x00 ∷ 0x00 ∷ 0x00 ∷ 0x00 ∷ 0x00 ∷ 0x00 ∷ 0x00 ∷ 0x00
+    ∷ []
+
+-- a table that no file gives: its one byte behind the header, 00, is no term of a list
+abbrev pub strayTable : List ℕ
+strayTable =
+    0x00 ∷ 0x00 ∷ 0x00 ∷ 0x00 ∷ 0x25 ∷ 0x00 ∷ 0x00 ∷ 0x00 ∷ 0x00 ∷ 0xDB ∷ 0x00 ∷ 0x00 ∷ 0x00 ∷ 0x00 ∷ 0x00 ∷ 0x00
+    ∷ 0x00 ∷ 0x00 ∷ 0x00 ∷ 0x00 ∷ 0x00 ∷ 0x00 ∷ 0x00 ∷ 0x00 ∷ 0x00 ∷ 0x00 ∷ 0x00 ∷ 0x00 ∷ 0x00 ∷ 0x00 ∷ 0x00 ∷ 0x00
+    ∷ 0x00 ∷ 0x00 ∷ 0x00 ∷ 0x00 ∷ 0x00 ∷ []
+
+-- ── The whole table by edits: new, with room for the terms; the terms appended; the last of them written again
+abbrev pub noTable : Sdt
+noTable = record { length = 0; checksum = 0 }
+
+abbrev pub begun : Outcome
+begun = newOf (identity wholeFile) 36 noTable (replicate 42 0)
+
+abbrev pub grown : Outcome
+grown = appendOf (begun .table) (begun .buffer) (drop 36 wholeTable)
+
+abbrev pub written : Outcome
+written = writeOf (grown .table) (grown .buffer) 41 (drop 41 wholeTable)

@@ -44,7 +44,8 @@ spaceRow tag w = record {
   space = w;
 }
 
--- no other kind is a descriptor
+-- x of E086 is base + 2^32 times length: its low four bytes are the base and its high four the length, as in 86 09 00, a, base, length.
+-- No other kind is a descriptor
 unfoldable pub rowOf : ℕ → Row
 rowOf kind =
     cond (eqb kind 0xE047) (textRow (0x47 ∷ 0x01 ∷ []) 6)

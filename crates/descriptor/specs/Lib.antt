@@ -2,4 +2,3 @@ pub mod Descriptor
 pub mod Columns
 pub mod DescriptorLaws
 pub mod Template
-pub mod TemplateLaws

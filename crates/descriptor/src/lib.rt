@@ -1,11 +1,11 @@
 // Resource descriptors: which fields they may have, their sizes and their bytes, by the columns of their rows;
-// and the two ends of a resource template, between which they stand.
+// and the end of a resource template, before which they stand.
 ghost use mathlib.Core.Path.{_≡_};
 ghost use Prim.Native.Nat.{_+_, _-_, _*_, _^_, _≤_, _<_};
 ghost use lib.ListN.{length};
 ghost use Rattle.octets.specs.Filling.{Wrote};
 ghost use Rattle.descriptor.specs.Descriptor.{rowOf, rangeLength, flagsFit, rangeFits, spelled, unusedFits, spaceFits, inRange, descriptor};
-ghost use Rattle.descriptor.specs.Template.{endTag, templateFront};
+ghost use Rattle.descriptor.specs.Template.{endTag};
 ghost use Rattle.descriptor.specs.DescriptorLaws.{Valid, Ranged};
 ghost use Rattle.descriptor.specs.Columns.{columnsOf, sizeOf, textColumns, numberColumns, spaceColumns};
 
@@ -223,24 +223,8 @@ pub fn put_descriptor(kind: u64, text: &[u8], a: u64, x: u64, out: &mut [u8]) ->
     at
 }
 
-// ── The two ends of a template
+// ── What stands behind a template's descriptors
 
-pub fn template_front_len(n: u64) -> usize
-    requires { ⌜ n ≤ 268435438 ⌝ }
-    ensures { λ r. ⌜ r ≡ length (templateFront n) ⌝ }
-{
-    number::buffer_front_len(n + 2)
-}
-
-// What stands before n bytes of descriptors.
-pub fn put_template_front(n: u64, out: &mut [u8]) -> usize
-    requires { ⌜ (length (templateFront n) ≤ length (now out)) × (n ≤ 268435438) ⌝ }
-    ensures { λ r. ⌜ Wrote (templateFront n) (now (out .entry)) (now (out .exit)) r ⌝ }
-{
-    number::put_buffer_front(n + 2, out)
-}
-
-// What stands behind them.
 pub fn put_end_tag(out: &mut [u8]) -> usize
     requires { ⌜ 2 ≤ length (now out) ⌝ }
     ensures { λ r. ⌜ Wrote endTag (now (out .entry)) (now (out .exit)) r ⌝ }

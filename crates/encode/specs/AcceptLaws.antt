@@ -28,7 +28,8 @@ use Rattle.term.specs.Record.{recordAt, recordsOf, recordsFrom}
 use Rattle.arity.specs.Arity.{argsOf}
 use Rattle.checker.specs.declared.Verdict.{Verdict}
 use Rattle.checker.specs.Refusal.{verdict, textOf, recordSection, aritySection, poolSection, refusalOf}
-use Rattle.checker.specs.Accepted.{termOf, forestOf, accepted-forest}
+use Rattle.checker.specs.Accepted.{accepted-forest}
+use Rattle.checker.specs.Described.{termOf, forestOf}
 use Rattle.encode.specs.WalkLaws.{Small}
 use Rattle.encode.specs.Sound.{FineRecord, Sound}
 

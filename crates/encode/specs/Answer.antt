@@ -13,14 +13,9 @@ use Rattle.term.specs.File.{identity}
 use Rattle.checker.specs.declared.Verdict.{Verdict}
 use Rattle.checker.specs.Refusal.{refusalOf}
 use Rattle.encode.specs.declared.Answer.{Answer}
-use Rattle.encode.specs.Encode.{tableOf, Outcome, refusedBy, handed, outcomeOf, encodeOf}
+use Rattle.encode.specs.Encode.{tableOf, Outcome, refusedBy, handed, outcomeOf, encodeOf, Answered}
 use Rattle.encode.specs.Walk.{Part, list, term}
 use Rattle.encode.specs.WalkLaws.{termsFrom}
-
--- the answer r and the output as it is left are those of the outcome
-pub record Answered (r : Answer) (out : List ℕ) (o : Outcome) : Type 0 where
-  pub answer : r ≡ o .answer
-  pub output : out ≡ o .output
 
 -- number, index, length and every byte of the output are determined
 pub answered-determined : {r s : Answer} {out out′ : List ℕ} {o : Outcome} → Answered r out o → Answered s out′ o → (r ≡ s) × (out ≡ out′)

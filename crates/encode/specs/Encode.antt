@@ -4,6 +4,7 @@
 use mathlib.Core.Bool.{_&&_, not, cond}
 use mathlib.Core.Option.{Option, none, some}
 use mathlib.Core.List.{List}
+use mathlib.Core.Path.{_≡_}
 use Prim.Native.Nat.{ℕ, _+_}
 use lib.Dec.{eqb, leb, ltb}
 use lib.ListN.{length}
@@ -14,7 +15,7 @@ use Rattle.tree.specs.Normal.{norm, roomy}
 use Rattle.term.specs.File.{identity}
 use Rattle.sdt.specs.Table.{opened, sealed}
 use Rattle.checker.specs.Refusal.{refusalOf}
-use Rattle.checker.specs.Accepted.{forestOf}
+use Rattle.checker.specs.Described.{forestOf}
 use Rattle.encode.specs.declared.Answer.{Answer}
 
 -- ── The table: header, terms, with its own length and the checksum that brings the sum to 0. What a forest encodes to is by definition
@@ -58,3 +59,8 @@ outcomeOf make f out =
 
 unfoldable pub encodeOf : List ℕ → List ℕ → Outcome
 encodeOf f out = outcomeOf (tableOf (identity f)) f out
+
+-- the answer r and the output as it is left are those of the outcome
+pub record Answered (r : Answer) (out : List ℕ) (o : Outcome) : Type 0 where
+  pub answer : r ≡ o .answer
+  pub output : out ≡ o .output

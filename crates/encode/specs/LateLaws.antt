@@ -25,7 +25,8 @@ use Rattle.term.specs.RecordLaws.{records-length}
 use Rattle.sdt.specs.Table.{opened, sealed}
 use Rattle.arity.specs.Arity.{argsOf}
 use Rattle.checker.specs.Refusal.{refusalOf, recordSection, aritySection, poolSection}
-use Rattle.checker.specs.Accepted.{termOf, forestOf, accepted-forest}
+use Rattle.checker.specs.Accepted.{accepted-forest}
+use Rattle.checker.specs.Described.{termOf, forestOf}
 use Rattle.encode.specs.Encode.{tableOf, lateNumber, described, outcomeOf, encodeOf}
 use Rattle.encode.specs.Walk.{below, walk-all}
 use Rattle.encode.specs.WalkLaws.{termsFrom}

@@ -16,7 +16,7 @@ use Rattle.number.specs.PkgLength.{pkgLength}
 use Rattle.number.specs.PkgLengthLaws.{pkg-length-length, following-most}
 use Rattle.number.specs.BufferLaws.{buffer-front, buffer-front-most}
 use Rattle.path.specs.PathLaws.{path-most}
-use Rattle.ident.specs.Ident.{eisaName, eisaId, uuid, uuidBytes}
+use Rattle.ident.specs.Ident.{eisaId, uuid, uuidBytes}
 use Rattle.ident.specs.IdentLaws.{uuid-length}
 use Rattle.descriptor.specs.Descriptor as descriptors
 use Rattle.descriptor.specs.Columns.{columnsOf, sizeOf}
@@ -24,7 +24,7 @@ use Rattle.descriptor.specs.DescriptorLaws.{solid-row}
 use Rattle.grammar.specs.declared.Text.{Text}
 use Rattle.grammar.specs.declared.Text.the-variants.{Unused, PathText, SegmentText, Ascii, AnyBytes, EisaText, UuidText, DescriptorText}
 use Rattle.grammar.specs.declared.Numbers.{Numbers}
-use Rattle.grammar.specs.declared.Numbers.the-variants.{Digits, Swapped, FieldFlags, IntegerX, LengthX}
+use Rattle.grammar.specs.declared.Numbers.the-variants.{Digits, MethodFlags, LevelOrder, FieldFlags, IntegerX, LengthX}
 use Rattle.grammar.specs.declared.Row.{Row}
 use Rattle.grammar.specs.Kinds.{opcode, normalKinds, otherKinds, kinds, rowOf, rowIn, noRow}
 use Rattle.grammar.specs.KindLaws.{everyRow, rule}
@@ -46,7 +46,7 @@ descriptor-few kind v =
     simp length-append (omega (arith, solid-row kind .size))
 
 text-few : (t : Text) (kind : ℕ) (v : Fields) → length (textBytes t kind v) ≤ 46 + length (v .text)
-unfolding textBytes eisaName uuid
+unfolding textBytes uuid
 text-few Unused kind v = omega arith
 text-few PathText kind v = omega (arith, path-most (v .text))
 text-few SegmentText kind v = omega arith
@@ -59,7 +59,8 @@ text-few DescriptorText kind v = descriptor-few kind v
 -- the bytes of a row's opcode and of its number are few
 unfoldable pub slimForm : Numbers → Bool
 slimForm (Digits n base) = leb n 9
-slimForm (Swapped n) = leb n 9
+slimForm MethodFlags = true
+slimForm LevelOrder = true
 slimForm FieldFlags = true
 slimForm IntegerX = true
 slimForm LengthX = true
@@ -67,20 +68,21 @@ slimForm LengthX = true
 unfoldable pub slim : Row → Bool
 slim r = leb (r .ops) 2 && slimForm (r .numbers)
 
-form-few : (f : Numbers) (alimit xlimit a x : ℕ) → T (slimForm f) → length (formBytes f alimit xlimit a x) ≤ 9
+form-few : (f : Numbers) (a x : ℕ) → T (slimForm f) → length (formBytes f a x) ≤ 9
 unfolding formBytes slimForm
-form-few (Digits n base) al xl a x t = rw (le-length n (base + (a + (al + 1) * x))) (leb→le n 9 t)
-form-few (Swapped n) al xl a x t = rw (le-length n (x + (xl + 1) * a)) (leb→le n 9 t)
-form-few FieldFlags al xl a x t = rw (le-length 1 a) (omega arith)
-form-few IntegerX al xl a x t = integer-most x
-form-few LengthX al xl a x t = omega (arith, pkg-length-length false x, following-most x)
+form-few (Digits n base) a x t = rw (le-length n (base + a)) (leb→le n 9 t)
+form-few MethodFlags a x t = rw (le-length 1 (a + 8 * x)) (omega arith)
+form-few LevelOrder a x t = rw length-append (omega (arith, le-length 1 x, le-length 2 a))
+form-few FieldFlags a x t = rw (le-length 1 a) (omega arith)
+form-few IntegerX a x t = integer-most x
+form-few LengthX a x t = omega (arith, pkg-length-length false x, following-most x)
 
 -- ── Terms: what is before the children, behind them, and around the body
 module _ (r : Row) (v : Fields) (s : T (slim r)) where
   fields-few : length (fieldBytes r v) ≤ 55 + length (v .text)
   unfolding fieldBytes slim
   fields-few =
-      simp length-append (omega (arith, text-few (r .text) (r .kind) v, form-few (r .numbers) (r .alimit) (r .xlimit) (v .a) (v .x) (and-right (leb (r .ops) 2) (slimForm (r .numbers)) s)))
+      simp length-append (omega (arith, text-few (r .text) (r .kind) v, form-few (r .numbers) (v .a) (v .x) (and-right (leb (r .ops) 2) (slimForm (r .numbers)) s)))
 
   pub ops-few : r .ops ≤ 2
   unfolding slim

@@ -11,13 +11,14 @@ use lib.ListN.{length, length-take, length-drop}
 use borrow.Author.Tests.{leb-true, leb-false}
 use Rattle.octets.specs.Filling.{Parts, Writing, writing-start}
 use Rattle.grammar.specs.declared.Row.{Row}
-use Rattle.grammar.specs.Kinds.{kinds, position, rowAt, rowOf, rowIn}
+use Rattle.grammar.specs.Kinds.{kinds, rowOf, rowIn}
+use Rattle.grammar.specs.Packed.{position, rowAt}
 use Rattle.grammar.specs.KindLaws.{row-known, row-unknown}
 use Rattle.written.specs.Fine.{Fine, fieldsOf}
 use Rattle.term.specs.declared.Record.{Record}
 use Rattle.term.specs.Record.{recordAt, textAt}
 use Rattle.checker.specs.Refusal.{textOf}
-use Rattle.checker.specs.Accepted.{termOf}
+use Rattle.checker.specs.Described.{termOf}
 use Rattle.tree.specs.Bytes.{behind, termBytes}
 use Rattle.encode.specs.Most.{row-slim}
 use Rattle.encode.specs.Terms.{Told, bodyOf, takesOf, headOf, Ready, takes-length, head-parts}

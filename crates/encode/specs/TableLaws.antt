@@ -20,11 +20,11 @@ use Rattle.term.specs.FileLaws.{Within}
 use Rattle.checker.specs.declared.Verdict.{Verdict}
 use Rattle.checker.specs.Refusal.{refusalOf, part}
 use Rattle.encode.specs.declared.Answer.{Answer}
-use Rattle.encode.specs.Encode.{refusedBy, handed, encodeOf}
+use Rattle.encode.specs.Encode.{refusedBy, handed, encodeOf, Answered}
 use Rattle.encode.specs.Walk.{Part}
 use Rattle.encode.specs.WalkLaws.{Measured, Room}
 use Rattle.encode.specs.Sound.{Sound}
-use Rattle.encode.specs.Answer.{Answered, whole, figuresNumber, numberOf, walked, figures-small}
+use Rattle.encode.specs.Answer.{whole, figuresNumber, numberOf, walked, figures-small}
 use Rattle.encode.specs.AcceptLaws.{accepted-within, identity-length, pool-ends, accepted-sound}
 use Rattle.encode.specs.LateLaws.{encode-accepted}
 

@@ -17,7 +17,7 @@ use Rattle.term.specs.declared.Record.{Record}
 use Rattle.term.specs.Record.{recordAt, recordsOf, recordsFrom, textAt}
 use Rattle.term.specs.RecordLaws.{records-more, records-none, records-length}
 use Rattle.checker.specs.Refusal.{textOf}
-use Rattle.checker.specs.Accepted.{termOf}
+use Rattle.checker.specs.Described.{termOf}
 use Rattle.encode.specs.Walk.{Part, nothing, list, isBuffer, recordsIn, deeper, node, term, or-assoc, or-false}
 use Rattle.encode.specs.Most.{own-most}
 

@@ -3,7 +3,7 @@ ghost use mathlib.Core.Path.{_≡_};
 ghost use Prim.Native.Nat.{_+_, _-_, _≤_};
 ghost use lib.ListN.{length};
 ghost use Rattle.octets.specs.Filling.{Wrote};
-ghost use Rattle.grammar.specs.Kinds.{rowAt};
+ghost use Rattle.grammar.specs.Packed.{rowAt};
 ghost use Rattle.written.specs.Fine.{fieldsOf};
 ghost use Rattle.encode.specs.Walk.{isBuffer, recordsIn, deeper, list, term};
 ghost use Rattle.encode.specs.Terms.{bodyOf, takesOf, headOf, isMeasured, Told, Framed, Ready};
@@ -11,8 +11,8 @@ ghost use Rattle.encode.specs.WalkLaws.{termsFrom, Measured, Put, Room};
 ghost use Rattle.encode.specs.Sound.{Sound, Node, Parent};
 ghost use Rattle.encode.specs.Kept.{keptIn, keptOf, Kept};
 ghost use Rattle.sdt.specs.Table.{opened, sealed};
-ghost use Rattle.encode.specs.Encode.{encodeOf};
-ghost use Rattle.encode.specs.Answer.{Answered, whole, figuresNumber, walked};
+ghost use Rattle.encode.specs.Encode.{encodeOf, Answered};
+ghost use Rattle.encode.specs.Answer.{whole, figuresNumber, walked};
 ghost use Rattle.encode.specs.TableLaws.{TableRoom};
 
 // A refusal's number and the record at which it was found; or 0, and how many bytes were written.

@@ -13,7 +13,7 @@ use Rattle.descriptor.specs.Descriptor as descriptors
 use Rattle.grammar.specs.declared.Text.{Text}
 use Rattle.grammar.specs.declared.Text.the-variants.{Unused, PathText, SegmentText, Ascii, AnyBytes, EisaText, UuidText, DescriptorText}
 use Rattle.grammar.specs.declared.Numbers.{Numbers}
-use Rattle.grammar.specs.declared.Numbers.the-variants.{Digits, Swapped, FieldFlags, IntegerX, LengthX}
+use Rattle.grammar.specs.declared.Numbers.the-variants.{Digits, MethodFlags, LevelOrder, FieldFlags, IntegerX, LengthX}
 use Rattle.grammar.specs.declared.Row.{Row}
 
 -- ── 5: out of range
@@ -23,7 +23,8 @@ flagsFit a = leb (a % 16) 5 && leb (a / 32) 2
 
 unfoldable pub formFits : Numbers → ℕ → Bool
 formFits (Digits n base) a = true
-formFits (Swapped n) a = true
+formFits MethodFlags a = true
+formFits LevelOrder a = true
 formFits FieldFlags a = flagsFit a
 formFits IntegerX a = true
 formFits LengthX a = true

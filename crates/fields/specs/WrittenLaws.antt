@@ -1,20 +1,19 @@
 -- A term's text and numbers are read back from their bytes, and from no others: for each row whose columns pass one computed test,
 -- by the forms of text and numbers and never by kind. For readers and writers of terms.
 -- Assumes nothing.
-use mathlib.Core.Path.{_≡_, refl, _∙_, ap}
+use mathlib.Core.Path.{_≡_, refl, sym, _∙_, ap}
 use mathlib.Core.Bool.{Bool, true, false, _&&_, _||_, not}
 use mathlib.Core.Option.{some, Option·none-ne-some}
 use mathlib.Core.List.{List, [], _∷_, _++_, append-nil}
 use Prim.Native.Nat.{ℕ, _+_, _-_, _*_, _/_, _%_, _^_, _≤_, _<_}
 use native.Mathlib.Omega.{arith}
-use native.Mathlib.Nat.{mul-le-mul-left, mul-add, mod-lt, mod-eq-of-lt, div-eq-of-lt, mod-add-div, add-mul-mod-self-left, add-mul-div-left}
 use lib.Dec.{T, T-not, eqb, ltb, leb, eqb→eq, ltb→lt, leb→le, le→leb}
 use lib.ListN.{length}
 use Rattle.octets.specs.Bytes.{Reader, _>>=_, need, every, le}
 use Rattle.octets.specs.Tests.{and-left, and-right, and-both, or-case, cond-false, cond-inv, took, gave, need-inv, need-true, not-equal, positive}
 use Rattle.octets.specs.Exact.{Exact}
-use Rattle.octets.specs.Laws.{le-exact}
-use Rattle.octets.specs.Matches.{Matches, exact-matches, regood, recast, cut-matches, seq}
+use Rattle.octets.specs.Laws.{le-join, le-exact}
+use Rattle.octets.specs.Matches.{Matches, exact-matches, regood, reput, recast, cut-matches, seq}
 use Rattle.number.specs.IntegerLaws.{integer-exact}
 use Rattle.number.specs.PkgLengthLaws.{pkg-length-exact}
 use Rattle.path.specs.Path.{segment}
@@ -22,13 +21,14 @@ use Rattle.path.specs.PathLaws.{path-text-exact, segment-length}
 use Rattle.grammar.specs.declared.Text.{Text}
 use Rattle.grammar.specs.declared.Text.the-variants.{Unused, PathText, SegmentText, Ascii, AnyBytes, EisaText, UuidText, DescriptorText}
 use Rattle.grammar.specs.declared.Numbers.{Numbers}
-use Rattle.grammar.specs.declared.Numbers.the-variants.{Digits, Swapped, FieldFlags, IntegerX, LengthX}
+use Rattle.grammar.specs.declared.Numbers.the-variants.{Digits, MethodFlags, LevelOrder, FieldFlags, IntegerX, LengthX}
 use Rattle.grammar.specs.declared.Row.{Row}
 use Rattle.grammar.specs.Kinds.{find, normalKinds}
 use Rattle.grammar.specs.KindLaws.{everyRow, found-rule}
 use Rattle.grammar.specs.Forest.{Fields}
 use Rattle.fields.specs.Fields.{flagsFit, formFits, numbersFit, textFits, inRange, ascii, textSpelled, spelled}
-use Rattle.fields.specs.Written.{textBytes, getString, getSegment, getText, pair, formBytes, getForm, fieldBytes, getFields}
+use Rattle.fields.specs.Written.{textBytes, formBytes, fieldBytes}
+use Rattle.fields.specs.Get.{getString, getSegment, getText, getForm, getFields}
 
 -- ── What is asked of a row's columns
 -- the texts that are written as they stand
@@ -44,8 +44,9 @@ readableText DescriptorText = false
 
 -- the numbers fit into their bytes
 unfoldable pub readableForm : Numbers → ℕ → ℕ → Bool
-readableForm (Digits n base) alimit xlimit = leb (base + (alimit + 1) * (xlimit + 1)) (256 ^ n)
-readableForm (Swapped n) alimit xlimit = leb ((xlimit + 1) * (alimit + 1)) (256 ^ n)
+readableForm (Digits n base) alimit xlimit = ltb (base + alimit) (256 ^ n) && eqb xlimit 0
+readableForm MethodFlags alimit xlimit = leb alimit 7 && leb xlimit 31
+readableForm LevelOrder alimit xlimit = leb alimit 65535 && leb xlimit 255
 readableForm FieldFlags alimit xlimit = leb alimit 255 && eqb xlimit 0
 readableForm IntegerX alimit xlimit = eqb alimit 0 && ltb xlimit (2 ^ 64)
 readableForm LengthX alimit xlimit = eqb alimit 0 && leb xlimit 268435455
@@ -64,7 +65,8 @@ endsText DescriptorText = false
 -- with no bytes there is one number, 0, where the numbers fit
 unfoldable pub noBytes : Numbers → Bool
 noBytes (Digits n base) = eqb n 0
-noBytes (Swapped n) = false
+noBytes MethodFlags = false
+noBytes LevelOrder = false
 noBytes FieldFlags = false
 noBytes IntegerX = false
 noBytes LengthX = false
@@ -74,22 +76,6 @@ endsFields r = endsText (r .text)
 
 unfoldable pub readable : Row → Bool
 readable r = readableText (r .text) && (readableForm (r .numbers) (r .alimit) (r .xlimit) && (not (endsText (r .text)) || noBytes (r .numbers)))
-
--- ── Two numbers as one
-pair-into : (limit low high : ℕ) → low ≤ limit → (pair limit low high % (limit + 1) ≡ low) × (pair limit low high / (limit + 1) ≡ high)
-pair-into limit low high h =
-    let l : low < limit + 1 = omega arith in
-    let z : 0 < limit + 1 = omega arith in
-    (add-mul-mod-self-left low (limit + 1) high ∙ mod-eq-of-lt l, add-mul-div-left low high z ∙ omega (arith, div-eq-of-lt l))
-
-pair-from : (limit w : ℕ) → (w % (limit + 1) ≤ limit) × (pair limit (w % (limit + 1)) (w / (limit + 1)) ≡ w)
-pair-from limit w = let z : 0 < limit + 1 = omega arith in let l = mod-lt w z in (omega arith, mod-add-div w (limit + 1))
-
-pair-small : (base limit top low high : ℕ) {bound : ℕ} → low ≤ limit → high ≤ top → base + (limit + 1) * (top + 1) ≤ bound → base + pair limit low high < bound
-pair-small base limit top low high h k b =
-    let m = mul-le-mul-left (limit + 1) k in
-    let e = mul-add (limit + 1) top 1 in
-    omega arith
 
 -- ── Numbers
 -- a and x, within the row's limits
@@ -120,27 +106,38 @@ x-exact f alimit xlimit X t z g =
     λ x l s. ((omega arith, leb→le x xlimit s, t 0), refl)
 
 form-exact : (f : Numbers) (alimit xlimit : ℕ) → T (readableForm f alimit xlimit)
-    → Matches false (λ u. formBytes f alimit xlimit (u .0) (u .1)) (getForm f alimit xlimit) (Within f alimit xlimit)
+    → Matches false (λ u. formBytes f (u .0) (u .1)) (getForm f alimit xlimit) (Within f alimit xlimit)
 unfolding readableForm formBytes getForm formFits
 form-exact (Digits n base) alimit xlimit w =
-    recast (exact-matches (le-exact n)) (λ v. leb base v && leb ((v - base) / (alimit + 1)) xlimit)
-    (λ u. base + pair alimit (u .0) (u .1)) (λ v. ((v - base) % (alimit + 1), (v - base) / (alimit + 1))) _
+    let l : base + alimit < 256 ^ n = ltb→lt (base + alimit) (256 ^ n) (and-left (ltb (base + alimit) (256 ^ n)) (eqb xlimit 0) w) in
+    let z : xlimit ≡ 0 = eqb→eq xlimit 0 (and-right (ltb (base + alimit) (256 ^ n)) (eqb xlimit 0) w) in
+    recast (exact-matches (le-exact n)) (λ v. leb base v && leb (v - base) alimit) (λ u. base + u .0) (λ v. (v - base, 0)) _
     (λ u (h, k, t).
-    let (lo, hi) = pair-into alimit (u .0) (u .1) h in
-    let e : base + pair alimit (u .0) (u .1) - base ≡ pair alimit (u .0) (u .1) = omega arith in
-    rw (e, lo, hi) (pair-small base alimit xlimit (u .0) (u .1) h k (leb→le _ (256 ^ n) w), and-both (leb base _) _ (le→leb base _ (omega arith)) (le→leb (u .1) xlimit k), refl))
-    λ v l t.
+    let e : base + u .0 - base ≡ u .0 = omega arith in
+    let x : 0 ≡ u .1 = omega arith in
+    rw e (omega arith, and-both (leb base _) _ (le→leb base _ (omega arith)) (le→leb (u .0) alimit h), ap (λ y. (u .0, y)) x))
+    λ v s t.
     let b : base ≤ v = leb→le base v (and-left (leb base v) _ t) in
-    let (s, e) = pair-from alimit (v - base) in
-    ((s, leb→le _ xlimit (and-right (leb base v) _ t), tt), rw e (omega arith))
-form-exact (Swapped n) alimit xlimit w =
-    recast (exact-matches (le-exact n)) (λ v. leb (v / (xlimit + 1)) alimit) (λ u. pair xlimit (u .1) (u .0)) (λ v. (v / (xlimit + 1), v % (xlimit + 1))) _
+    ((leb→le (v - base) alimit (and-right (leb base v) _ t), omega arith, tt), omega arith)
+form-exact MethodFlags alimit xlimit w =
+    let l : alimit ≤ 7 = leb→le alimit 7 (and-left (leb alimit 7) (leb xlimit 31) w) in
+    let m : xlimit ≤ 31 = leb→le xlimit 31 (and-right (leb alimit 7) (leb xlimit 31) w) in
+    recast (exact-matches (le-exact 1)) (λ v. leb (v % 8) alimit && leb (v / 8) xlimit) (λ u. u .0 + 8 * u .1) (λ v. (v % 8, v / 8)) _
     (λ u (h, k, t).
-    let (lo, hi) = pair-into xlimit (u .1) (u .0) k in
-    let b : 0 + (xlimit + 1) * (alimit + 1) ≤ 256 ^ n = omega (arith, leb→le _ (256 ^ n) w) in
-    let l = pair-small 0 xlimit alimit (u .1) (u .0) k h b in
-    rw (lo, hi) (omega arith, le→leb (u .0) alimit h, refl))
-    λ v l t. let (s, e) = pair-from xlimit v in ((leb→le _ alimit t, s, tt), e)
+    let lo : (u .0 + 8 * u .1) % 8 ≡ u .0 = omega arith in
+    let hi : (u .0 + 8 * u .1) / 8 ≡ u .1 = omega arith in
+    rw (lo, hi) (omega arith, and-both (leb (u .0) alimit) _ (le→leb (u .0) alimit h) (le→leb (u .1) xlimit k), refl))
+    λ v s t. ((leb→le (v % 8) alimit (and-left (leb (v % 8) alimit) _ t), leb→le (v / 8) xlimit (and-right (leb (v % 8) alimit) _ t), tt), omega arith)
+form-exact LevelOrder alimit xlimit w =
+    let l : alimit ≤ 65535 = leb→le alimit 65535 (and-left (leb alimit 65535) (leb xlimit 255) w) in
+    let m : xlimit ≤ 255 = leb→le xlimit 255 (and-right (leb alimit 65535) (leb xlimit 255) w) in
+    reput (λ u (h, k, t). sym (le-join 1 2 (u .1) (u .0) (omega arith)))
+    (recast (exact-matches (le-exact 3)) (λ v. leb (v / 256) alimit && leb (v % 256) xlimit) (λ u. u .1 + 256 * u .0) (λ v. (v / 256, v % 256)) _
+    (λ u (h, k, t).
+    let lo : (u .1 + 256 * u .0) % 256 ≡ u .1 = omega arith in
+    let hi : (u .1 + 256 * u .0) / 256 ≡ u .0 = omega arith in
+    rw (lo, hi) (omega arith, and-both (leb (u .0) alimit) _ (le→leb (u .0) alimit h) (le→leb (u .1) xlimit k), refl))
+    λ v s t. ((leb→le (v / 256) alimit (and-left (leb (v / 256) alimit) _ t), leb→le (v % 256) xlimit (and-right (leb (v / 256) alimit) _ t), tt), omega arith))
 form-exact FieldFlags alimit xlimit w =
     let l : alimit ≤ 255 = leb→le alimit 255 (and-left (leb alimit 255) (eqb xlimit 0) w) in
     let z : xlimit ≡ 0 = eqb→eq xlimit 0 (and-right (leb alimit 255) (eqb xlimit 0) w) in
@@ -251,13 +248,14 @@ module _
     text-exact DescriptorText w z = absurd w
 
 -- ── Both
-no-bytes : (f : Numbers) (alimit xlimit a x : ℕ) → T (noBytes f) → formBytes f alimit xlimit a x ≡ []
+no-bytes : (f : Numbers) (a x : ℕ) → T (noBytes f) → formBytes f a x ≡ []
 unfolding noBytes formBytes le
-no-bytes (Digits n base) alimit xlimit a x t = rw (eqb→eq n 0 t) refl
-no-bytes (Swapped n) alimit xlimit a x t = absurd t
-no-bytes FieldFlags alimit xlimit a x t = absurd t
-no-bytes IntegerX alimit xlimit a x t = absurd t
-no-bytes LengthX alimit xlimit a x t = absurd t
+no-bytes (Digits n base) a x t = rw (eqb→eq n 0 t) refl
+no-bytes MethodFlags a x t = absurd t
+no-bytes LevelOrder a x t = absurd t
+no-bytes FieldFlags a x t = absurd t
+no-bytes IntegerX a x t = absurd t
+no-bytes LengthX a x t = absurd t
 
 pub fields-exact : (r : Row) → T (readable r) → Matches (endsFields r) (fieldBytes r) (getFields r) (λ v. T (inRange r (v .text) (v .a) (v .x)) × T (spelled r (v .text)))
 unfolding readable endsFields fieldBytes getFields inRange spelled
@@ -266,9 +264,9 @@ fields-exact r w =
     let w₂ : T (readableForm (r .numbers) (r .alimit) (r .xlimit)) = search (and-left, and-right) in
     let w₃ : T (not (endsText (r .text)) || noBytes (r .numbers)) = search (and-left, and-right) in
     regood
-    (text-exact (r .kind) (formBytes (r .numbers) (r .alimit) (r .xlimit)) (getForm (r .numbers) (r .alimit) (r .xlimit)) (Within (r .numbers) (r .alimit) (r .xlimit))
+    (text-exact (r .kind) (formBytes (r .numbers)) (getForm (r .numbers) (r .alimit) (r .xlimit)) (Within (r .numbers) (r .alimit) (r .xlimit))
     (form-exact (r .numbers) (r .alimit) (r .xlimit) w₂) (r .text) w₁
-    λ t a x. no-bytes (r .numbers) (r .alimit) (r .xlimit) a x (or-case (not (endsText (r .text))) (noBytes (r .numbers)) w₃ (λ i. absurd (T-not (endsText (r .text)) i t)) (λ i. i)))
+    λ t a x. no-bytes (r .numbers) a x (or-case (not (endsText (r .text))) (noBytes (r .numbers)) w₃ (λ i. absurd (T-not (endsText (r .text)) i t)) (λ i. i)))
     (λ v (h, k). ((and-right (numbersFit r (v .a) (v .x)) _ h, k), within r (v .a) (v .x) (and-left (numbersFit r (v .a) (v .x)) _ h)))
     λ v h. (and-both (numbersFit r (v .a) (v .x)) _ (fit r (v .a) (v .x) (h .1)) (h .0 .0), h .0 .1)
 

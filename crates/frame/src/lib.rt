@@ -3,7 +3,7 @@ ghost use mathlib.Core.Path.{_≡_};
 ghost use Prim.Native.Nat.{_+_, _≤_};
 ghost use lib.ListN.{length};
 ghost use Rattle.octets.specs.Filling.{Wrote};
-ghost use Rattle.grammar.specs.Kinds.{rowAt};
+ghost use Rattle.grammar.specs.Packed.{rowAt};
 ghost use Rattle.written.specs.Fine.{Fine, fieldsOf};
 ghost use Rattle.tree.specs.Bytes.{back, behind};
 ghost use Rattle.frame.specs.Frame.{lengthOf, frameOf, frontOf, beforeOf, besideOf};

@@ -5,12 +5,12 @@ use mathlib.Core.Bool.{Bool, false, _&&_, _||_, cond}
 use mathlib.Core.List.{List, [], _∷_}
 use Prim.Native.Nat.{ℕ, _+_, _/_, _%_}
 use lib.Dec.{eqb, ltb, leb}
-use Rattle.path.specs.Path.{nameStart}
+use Rattle.path.specs.Get.{nameStart}
 use Rattle.grammar.specs.declared.Place.the-variants.{FieldEntry}
 use Rattle.grammar.specs.declared.Text.{Text}
 use Rattle.grammar.specs.declared.Text.the-variants.{Unused, PathText, SegmentText, Ascii, AnyBytes, EisaText, UuidText, DescriptorText}
 use Rattle.grammar.specs.declared.Numbers.{Numbers}
-use Rattle.grammar.specs.declared.Numbers.the-variants.{Digits, Swapped, FieldFlags, IntegerX, LengthX}
+use Rattle.grammar.specs.declared.Numbers.the-variants.{Digits, MethodFlags, LevelOrder, FieldFlags, IntegerX, LengthX}
 use Rattle.grammar.specs.declared.Row.{Row}
 use Rattle.grammar.specs.Kinds.{stands, normalKinds}
 
@@ -31,7 +31,8 @@ beginsText DescriptorText b = false
 
 unfoldable pub beginsNumbers : Numbers → ℕ → ℕ → Bool
 beginsNumbers (Digits n base) limit b = eqb n 1 && leb base b && leb b (base + limit)
-beginsNumbers (Swapped n) limit b = false
+beginsNumbers MethodFlags limit b = false
+beginsNumbers LevelOrder limit b = false
 beginsNumbers FieldFlags limit b = false
 beginsNumbers IntegerX limit b = beginsInteger b
 beginsNumbers LengthX limit b = false

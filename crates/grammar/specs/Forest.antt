@@ -26,11 +26,6 @@ unfoldable pub depth : Forest → ℕ
 depth nil = 0
 depth (node k v c s) = max (suc (depth c)) (depth s)
 
--- one forest after another
-unfoldable pub join : Forest → Forest → Forest
-join nil g = g
-join (node k v c s) g = node k v c (join s g)
-
 -- ── As records: kind, fields and number of children of each term, children behind their parent
 pub record Term : Type 0 where
   pub kind : ℕ

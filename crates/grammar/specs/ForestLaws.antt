@@ -9,7 +9,12 @@ use lib.ListN.{length, drop, length-append}
 use lib.Seq.{drop-append-seam}
 use Rattle.octets.specs.Bytes.{_>>=_}
 use Rattle.octets.specs.Tests.{took₁, gave}
-use Rattle.grammar.specs.Forest.{Fields, Forest, nil, node, count, join, Term, flatten, split, build}
+use Rattle.grammar.specs.Forest.{Fields, Forest, nil, node, count, Term, flatten, split, build}
+
+-- one forest after another
+unfoldable pub join : Forest → Forest → Forest
+join nil g = g
+join (node k v c s) g = node k v c (join s g)
 
 pub join-nil : (f : Forest) → join f nil ≡ f
 unfolding join

@@ -8,14 +8,22 @@ use Prim.Native.Nat.{ℕ, zero, suc, _+_, _≤_, _<_}
 use native.Mathlib.Omega.{arith}
 use lib.Dec.{T, T-not, eqb, eqb→eq, eqb-refl}
 use lib.ListN.{length, getD}
+use Rattle.octets.specs.Bytes.{every, isByte, value}
 use Rattle.octets.specs.Tests.{and-left, and-right, cond-case, cond-inv}
+use Rattle.octets.specs.Laws.{le-value}
 use Rattle.grammar.specs.declared.Row.{Row}
-use Rattle.grammar.specs.Kinds.{normalKinds, otherKinds, kinds, find, rowOf, position, noRow}
+use Rattle.grammar.specs.Kinds.{opcode, normalKinds, otherKinds, kinds, find, rowOf, noRow}
+use Rattle.grammar.specs.Packed.{position}
 
 -- the test passes at every row
 unfoldable pub everyRow : (Row → Bool) → List Row → Bool
 everyRow f [] = true
 everyRow f (r ∷ rs) = f r && everyRow f rs
+
+-- a row's opcode is the bytes of which its two columns were made
+pub opcode-made : (r : Row) (op : List ℕ) → r .ops ≡ length op → r .op ≡ value op → T (every isByte op) → opcode r ≡ op
+unfolding opcode
+opcode-made r op e f t = rw (e, f) (le-value op t)
 
 -- ── In any list of rows
 module _ (k : ℕ) where

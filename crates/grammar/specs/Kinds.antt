@@ -4,10 +4,10 @@
 use mathlib.Core.Bool.{Bool, true, false, _||_, cond}
 use mathlib.Core.Option.{Option, none, some}
 use mathlib.Core.List.{List, [], _∷_, _++_, map}
-use Prim.Native.Nat.{ℕ, _+_, _-_, _*_, _/_, _%_, _^_}
+use Prim.Native.Nat.{ℕ, _+_, _-_, _/_, _%_, _^_}
 use lib.Dec.{eqb, ltb, leb}
-use lib.ListN.{getD}
-use Rattle.octets.specs.Bytes.{le}
+use lib.ListN.{length}
+use Rattle.octets.specs.Bytes.{le, value}
 use Rattle.grammar.specs.declared.Place.{Place}
 use Rattle.grammar.specs.declared.Place.the-variants.{InList, Operand, Datum, Element, FieldEntry, Descriptor}
 use Rattle.grammar.specs.declared.Places.{Places}
@@ -15,7 +15,7 @@ use Rattle.grammar.specs.declared.Places.the-variants.{Lists, ListsOpera
 use Rattle.grammar.specs.declared.Text.{Text}
 use Rattle.grammar.specs.declared.Text.the-variants.{Unused, PathText, SegmentText, Ascii, AnyBytes, EisaText, UuidText, DescriptorText}
 use Rattle.grammar.specs.declared.Numbers.{Numbers}
-use Rattle.grammar.specs.declared.Numbers.the-variants.{Digits, Swapped, FieldFlags, IntegerX, LengthX}
+use Rattle.grammar.specs.declared.Numbers.the-variants.{Digits, MethodFlags, LevelOrder, FieldFlags, IntegerX, LengthX}
 use Rattle.grammar.specs.declared.Rest.{Rest}
 use Rattle.grammar.specs.declared.Rest.the-variants.{Nothing, Arity, Listed, Counted, Measured}
 use Rattle.grammar.specs.declared.Row.{Row}
@@ -60,16 +60,21 @@ counts Measured operands args n = true
 unfoldable pub argsAt : Place → ℕ → ℕ
 argsAt place args = cond (is place Element) 0 args
 
--- ── Opcodes: one byte, or two, the high one of the kind first
+-- ── Opcodes
+-- a kind is its opcode: one byte, or two, the high one first
+abbrev pub opcodeOf : ℕ → List ℕ
+opcodeOf k = cond (ltb k 256) (k ∷ []) (k / 256 ∷ k % 256 ∷ [])
+
+-- a row holds it as a number of so many bytes
 unfoldable pub opcode : Row → List ℕ
 opcode r = le (r .ops) (r .op)
 
 -- ── Rows by what is written, in the order in which it is written
-abbrev pub row : ℕ → ℕ → ℕ → Bool → Text → Numbers → ℕ → ℕ → Bool → ℕ → Place → Rest → Place → Places → Row
-row kind ops op boxed text numbers alimit xlimit last operands operand rest place places = record {
+abbrev pub row : ℕ → List ℕ → Bool → Text → Numbers → ℕ → ℕ → Bool → ℕ → Place → Rest → Place → Places → Row
+row kind op boxed text numbers alimit xlimit last operands operand rest place places = record {
   kind = kind;
-  ops = ops;
-  op = op;
+  ops = length op;
+  op = value op;
   boxed = boxed;
   text = text;
   numbers = numbers;
@@ -83,46 +88,58 @@ row kind ops op boxed text numbers alimit xlimit last operands operand rest plac
   places = places;
 }
 
--- a kind is its opcode
-abbrev pub opLength : ℕ → ℕ
-opLength k = cond (ltb k 256) 1 2
-
-abbrev pub opOf : ℕ → ℕ
-opOf k = cond (ltb k 256) k (k / 256 + 256 * (k % 256))
-
 abbrev pub noNumbers : Numbers
 noNumbers = Digits 0 0
 
 -- opcode, path, numbers, n children in a place
 abbrev pub named : ℕ → Numbers → ℕ → ℕ → Place → Places → Row
-named k numbers alimit n p places = row k (opLength k) (opOf k) false PathText numbers alimit 0 false n p Nothing p places
+named k numbers alimit n p places = row k (opcodeOf k) false PathText numbers alimit 0 false n p Nothing p places
 
 -- opcode, length, path, numbers, a list in a place
 abbrev pub scope : ℕ → Numbers → ℕ → ℕ → Place → Row
-scope k numbers alimit xlimit p = row k (opLength k) (opOf k) true PathText numbers alimit xlimit false 0 p Listed p Lists
+scope k numbers alimit xlimit p = row k (opcodeOf k) true PathText numbers alimit xlimit false 0 p Listed p Lists
 
 -- opcode, n operands, path
 abbrev pub createField : ℕ → ℕ → Row
-createField k n = row k (opLength k) (opOf k) false PathText noNumbers 0 0 true n Operand Nothing Operand Lists
+createField k n = row k (opcodeOf k) false PathText noNumbers 0 0 true n Operand Nothing Operand Lists
 
 -- opcode, length, n operands, a list
 abbrev pub block : ℕ → ℕ → Row
-block k n = row k (opLength k) (opOf k) true Unused noNumbers 0 0 false n Operand Listed InList Lists
+block k n = row k (opcodeOf k) true Unused noNumbers 0 0 false n Operand Listed InList Lists
 
 -- opcode, n operands
 abbrev pub operator : ℕ → Places → ℕ → Row
-operator n places k = row k (opLength k) (opOf k) false Unused noNumbers 0 0 false n Operand Nothing Operand places
+operator n places k = row k (opcodeOf k) false Unused noNumbers 0 0 false n Operand Nothing Operand places
 
 -- text and numbers, with no opcode before them, or with one
 abbrev pub plain : ℕ → Text → Numbers → ℕ → ℕ → Places → Row
-plain k text numbers alimit xlimit places = row k 0 0 false text numbers alimit xlimit false 0 Operand Nothing Operand places
+plain k text numbers alimit xlimit places = row k [] false text numbers alimit xlimit false 0 Operand Nothing Operand places
 
 abbrev pub marked : ℕ → Text → Numbers → ℕ → Places → Row
-marked k text numbers xlimit places = row k 1 (k % 256) false text numbers 0 xlimit false 0 Operand Nothing Operand places
+marked k text numbers xlimit places = row k (k % 256 ∷ []) false text numbers 0 xlimit false 0 Operand Nothing Operand places
 
 -- opcode, length, n operands, the other children, text
 abbrev pub container : ℕ → ℕ → ℕ → Rest → Place → Text → Row
-container k op n rest p text = row k 1 op true text noNumbers 0 0 true n Operand rest p Data
+container k op n rest p text = row k (op ∷ []) true text noNumbers 0 0 true n Operand rest p Data
+
+-- path, then as many operands as its arity
+abbrev pub nameOrCall : ℕ → Row
+nameOrCall k = record {
+  kind = k;
+  ops = 0;
+  op = 0;
+  boxed = false;
+  text = PathText;
+  numbers = noNumbers;
+  alimit = 0;
+  xlimit = 0;
+  last = false;
+  operands = 0;
+  operand = Operand;
+  rest = Arity;
+  place = Operand;
+  places = Names;
+}
 
 -- ── The table, in document 01's order
 unfoldable pub normalKinds : List Row
@@ -130,8 +147,8 @@ normalKinds =
     named 0x08 noNumbers 0 1 Datum Lists
     ∷ scope 0x10 noNumbers 0 0 InList
     ∷ scope 0x5B82 noNumbers 0 0 InList
-    ∷ scope 0x14 (Digits 1 0) 7 1 InList
-    ∷ scope 0x5B84 (Swapped 3) 65535 255 InList
+    ∷ scope 0x14 MethodFlags 7 1 InList
+    ∷ scope 0x5B84 LevelOrder 65535 255 InList
     ∷ scope 0x5B81 FieldFlags 255 0 FieldEntry
     ∷ named 0x5B80 (Digits 1 0) 9 2 Operand Lists
     ∷ named 0x5B01 (Digits 1 0) 15 0 Operand Lists
@@ -150,7 +167,7 @@ normalKinds =
     ++ (map (operator 2 ListsOperands) (0x93 ∷ 0x94 ∷ 0x95 ∷ 0x9293 ∷ 0x9294 ∷ 0x9295 ∷ 0x96 ∷ 0x99 ∷ [])
     ++ (map (operator 3 ListsOperands) (0x72 ∷ 0x73 ∷ 0x74 ∷ 0x77 ∷ 0x79 ∷ 0x7A ∷ 0x7B ∷ 0x7C ∷ 0x7D ∷ 0x7E ∷ 0x7F ∷ 0x84 ∷ 0x85 ∷ 0x88 ∷ 0x9C ∷ [])
     ++ (operator 4 ListsOperands 0x9E
-    ∷ row 0x2E 0 0 false PathText noNumbers 0 0 false 0 Operand Arity Operand Names
+    ∷ nameOrCall 0x2E
     ∷ plain 0x60 Unused (Digits 1 0x60) 7 0 Operands
     ∷ plain 0x68 Unused (Digits 1 0x68) 6 0 Operands
     ∷ plain 0x0E Unused IntegerX 0 (2 ^ 64 - 1) Data
@@ -182,20 +199,11 @@ find k (r ∷ rs) = cond (eqb k (r .kind)) (some r) (find k rs)
 unfoldable pub rowOf : ℕ → Option Row
 rowOf k = find k kinds
 
--- where the kind stands in the table; behind its end, if it is not known
-unfoldable pub position : ℕ → List Row → ℕ
-position k [] = 0
-position k (r ∷ rs) = cond (eqb k (r .kind)) 0 (1 + position k rs)
-
 -- what stands where there is no row
 abbrev pub noRow : Row
-noRow = row 0 0 0 false Unused noNumbers 0 0 false 0 InList Nothing InList Lists
+noRow = row 0 [] false Unused noNumbers 0 0 false 0 InList Nothing InList Lists
 
 -- the row of a kind that is known
 unfoldable pub rowIn : Option Row → Row
 rowIn none = noRow
 rowIn (some r) = r
-
--- the row at a place of the table
-abbrev pub rowAt : ℕ → Row
-rowAt j = getD kinds j noRow

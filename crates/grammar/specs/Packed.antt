@@ -2,8 +2,9 @@
 -- the code's numbers to the table of kinds. Assumes nothing.
 use mathlib.Core.Bool.{cond}
 use mathlib.Core.List.{List, [], _∷_}
-use Prim.Native.Nat.{ℕ, suc, _/_, _%_, _^_}
+use Prim.Native.Nat.{ℕ, suc, _/_, _%_, _^_, _+_}
 use lib.Dec.{eqb}
+use lib.ListN.{getD}
 use Rattle.grammar.specs.declared.Place.{Place}
 use Rattle.grammar.specs.declared.Place.the-variants.{InList, Operand, Datum, Element, FieldEntry, Descriptor}
 use Rattle.grammar.specs.declared.Places.{Places}
@@ -11,11 +12,11 @@ use Rattle.grammar.specs.declared.Places.the-variants.{Lists, ListsOpera
 use Rattle.grammar.specs.declared.Text.{Text}
 use Rattle.grammar.specs.declared.Text.the-variants.{Unused, PathText, SegmentText, Ascii, AnyBytes, EisaText, UuidText, DescriptorText}
 use Rattle.grammar.specs.declared.Numbers.{Numbers}
-use Rattle.grammar.specs.declared.Numbers.the-variants.{Digits, Swapped, FieldFlags, IntegerX, LengthX}
+use Rattle.grammar.specs.declared.Numbers.the-variants.{Digits, MethodFlags, LevelOrder, FieldFlags, IntegerX, LengthX}
 use Rattle.grammar.specs.declared.Rest.{Rest}
 use Rattle.grammar.specs.declared.Rest.the-variants.{Nothing, Arity, Listed, Counted, Measured}
 use Rattle.grammar.specs.declared.Row.{Row}
-use Rattle.grammar.specs.Kinds.{row}
+use Rattle.grammar.specs.Kinds.{kinds, noRow}
 
 unfoldable pub placeOf : ℕ → Place
 placeOf c = cond (eqb c 1) Operand (cond (eqb c 2) Datum (cond (eqb c 3) Element (cond (eqb c 4) FieldEntry (cond (eqb c 5) Descriptor InList))))
@@ -30,7 +31,8 @@ unfoldable pub restOf : ℕ → Rest
 restOf c = cond (eqb c 1) Arity (cond (eqb c 2) Listed (cond (eqb c 3) Counted (cond (eqb c 4) Measured Nothing)))
 
 unfoldable pub numbersOf : ℕ → ℕ → ℕ → Numbers
-numbersOf c width base = cond (eqb c 1) (Swapped width) (cond (eqb c 2) FieldFlags (cond (eqb c 3) IntegerX (cond (eqb c 4) LengthX (Digits width base))))
+numbersOf c width base =
+    cond (eqb c 1) MethodFlags (cond (eqb c 2) LevelOrder (cond (eqb c 3) FieldFlags (cond (eqb c 4) IntegerX (cond (eqb c 5) LengthX (Digits width base)))))
 
 -- the number of which a list says that it stands at j, where the list begins at i; 0 is none
 unfoldable pub entry : List ℕ → ℕ → ℕ → ℕ
@@ -56,8 +58,8 @@ words =
 -- the forms of numbers with the limit of a, and the limits of x, of the rows that have any; rows name them from 1 on
 unfoldable pub seconds : List ℕ
 seconds =
-    0xE008 ∷ 0x1FFFE019 ∷ 0x1FE002 ∷ 0x12008 ∷ 0x1E008 ∷ 0x1FFFE010
-    ∷ 0xEC08 ∷ 0xCD08 ∷ 0x3 ∷ 0x4 ∷ 0x1FFFE000 ∷ []
+    0xE001 ∷ 0x1FFFE002 ∷ 0x1FE003 ∷ 0x12008 ∷ 0x1E008 ∷ 0x1FFFE010
+    ∷ 0xEC08 ∷ 0xCD08 ∷ 0x4 ∷ 0x5 ∷ 0x1FFFE000 ∷ []
 
 unfoldable pub thirds : List ℕ
 thirds =
@@ -68,6 +70,28 @@ thirds =
 unfoldable pub unpack : ℕ → Row
 unpack w =
     let v = entry seconds 1 (w / 2 ^ 54) in
-    row (w % 65536) (w / 2 ^ 16 % 4) (w / 2 ^ 18 % 65536) (eqb (w / 2 ^ 34 % 2) 1) (textOf (w / 2 ^ 36 % 8))
-    (numbersOf (v % 8) (v / 8 % 4) (v / 32 % 256)) (v / 8192) (entry thirds 1 (w / 2 ^ 54))
-    (eqb (w / 2 ^ 35 % 2) 1) (w / 2 ^ 45 % 8) (placeOf (w / 2 ^ 42 % 8)) (restOf (w / 2 ^ 39 % 8)) (placeOf (w / 2 ^ 48 % 8)) (placesOf (w / 2 ^ 51 % 8))
+    record {
+      kind = w % 65536;
+      ops = w / 2 ^ 16 % 4;
+      op = w / 2 ^ 18 % 65536;
+      boxed = eqb (w / 2 ^ 34 % 2) 1;
+      text = textOf (w / 2 ^ 36 % 8);
+      numbers = numbersOf (v % 8) (v / 8 % 4) (v / 32 % 256);
+      alimit = v / 8192;
+      xlimit = entry thirds 1 (w / 2 ^ 54);
+      last = eqb (w / 2 ^ 35 % 2) 1;
+      operands = w / 2 ^ 45 % 8;
+      operand = placeOf (w / 2 ^ 42 % 8);
+      rest = restOf (w / 2 ^ 39 % 8);
+      place = placeOf (w / 2 ^ 48 % 8);
+      places = placesOf (w / 2 ^ 51 % 8);
+    }
+
+-- where the kind stands in the table; behind its end, if it is not known
+unfoldable pub position : ℕ → List Row → ℕ
+position k [] = 0
+position k (r ∷ rs) = cond (eqb k (r .kind)) 0 (1 + position k rs)
+
+-- the row at a place of the table
+abbrev pub rowAt : ℕ → Row
+rowAt j = getD kinds j noRow

@@ -8,14 +8,15 @@ use native.Mathlib.Omega.{arith}
 use lib.Dec.{eqb, leb}
 use lib.ListN.{length, getD, List·getD-eq-default}
 use borrow.Author.Tests.{ne-eqb, leb-true, leb-false}
+use Rattle.octets.specs.Bytes.{value}
 use Rattle.grammar.specs.declared.Place.{Place}
 use Rattle.grammar.specs.declared.Places.{Places}
 use Rattle.grammar.specs.declared.Text.{Text}
 use Rattle.grammar.specs.declared.Numbers.{Numbers}
 use Rattle.grammar.specs.declared.Rest.{Rest}
-use Rattle.grammar.specs.Kinds.{row, noRow, normalKinds, otherKinds, kinds, rowAt}
+use Rattle.grammar.specs.Kinds.{noRow, normalKinds, otherKinds, kinds}
+use Rattle.grammar.specs.Packed.{rowAt, placeOf, placesOf, textOf, restOf, numbersOf, entry, words, seconds, thirds, unpack}
 use Rattle.grammar.specs.KindLaws.{kinds-count}
-use Rattle.grammar.specs.Packed.{placeOf, placesOf, textOf, restOf, numbersOf, entry, words, seconds, thirds, unpack}
 
 -- ── A table as a list: what f says of n numbers from i on
 unfoldable pub listed : {A : Type 0} → (ℕ → A) → ℕ → ℕ → List A
@@ -44,11 +45,11 @@ entry-none (w ∷ ws) i j h = rw (ne-eqb j i (λ e. omega arith)) (entry-none ws
 
 -- ── The rows: the numbers compute to the table
 row-in : (j : ℕ) → j < 67 → rowAt j ≡ unpack (entry words 0 j)
-unfolding listed kinds normalKinds otherKinds unpack placeOf placesOf textOf restOf numbersOf entry words seconds thirds
+unfolding listed kinds normalKinds otherKinds value unpack placeOf placesOf textOf restOf numbersOf entry words seconds thirds
 row-in = listed-at (λ j. unpack (entry words 0 j)) 67 {l = kinds} noRow refl
 
 row-out : (j : ℕ) → 67 ≤ j → rowAt j ≡ unpack (entry words 0 j)
-unfolding unpack placeOf placesOf textOf restOf numbersOf entry seconds thirds
+unfolding value unpack placeOf placesOf textOf restOf numbersOf entry seconds thirds
 row-out j h = List·getD-eq-default kinds noRow (omega (arith, kinds-count)) ∙ sym (ap unpack (entry-none words 0 j (omega (arith, words-count))))
 
 pub row-packed : (j : ℕ) → rowAt j ≡ unpack (entry words 0 j)
@@ -63,7 +64,21 @@ pub row-made : (w : ℕ) {v x : ℕ} {text : Text} {numbers : Numbers} {operand 
     → v ≡ entry seconds 1 (w / 2 ^ 54) → x ≡ entry thirds 1 (w / 2 ^ 54)
     → text ≡ textOf (w / 2 ^ 36 % 8) → numbers ≡ numbersOf (v % 8) (v / 8 % 4) (v / 32 % 256) → operand ≡ placeOf (w / 2 ^ 42 % 8)
     → rest ≡ restOf (w / 2 ^ 39 % 8) → place ≡ placeOf (w / 2 ^ 48 % 8) → places ≡ placesOf (w / 2 ^ 51 % 8)
-    → row (w % 65536) (w / 2 ^ 16 % 4) (w / 2 ^ 18 % 65536) (eqb (w / 2 ^ 34 % 2) 1) text numbers (v / 8192) x
-    (eqb (w / 2 ^ 35 % 2) 1) (w / 2 ^ 45 % 8) operand rest place places ≡ unpack w
+    → record {
+      kind = w % 65536;
+      ops = w / 2 ^ 16 % 4;
+      op = w / 2 ^ 18 % 65536;
+      boxed = eqb (w / 2 ^ 34 % 2) 1;
+      text = text;
+      numbers = numbers;
+      alimit = v / 8192;
+      xlimit = x;
+      last = eqb (w / 2 ^ 35 % 2) 1;
+      operands = w / 2 ^ 45 % 8;
+      operand = operand;
+      rest = rest;
+      place = place;
+      places = places;
+    } ≡ unpack w
 unfolding unpack
 row-made w e f e₁ e₂ e₃ e₄ e₅ e₆ = rw (e₂, e, f, e₁, e₃, e₄, e₅, e₆) refl

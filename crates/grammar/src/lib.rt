@@ -2,8 +2,8 @@
 ghost use mathlib.Core.Path.{_≡_};
 ghost use Prim.Native.Nat.{_+_, _<_};
 ghost use lib.ListN.{drop};
-ghost use Rattle.grammar.specs.Kinds.{kinds, position, rowAt, rank, stands, childPlace};
-ghost use Rattle.grammar.specs.Packed.{placeOf, placesOf, textOf, restOf, numbersOf, unpack, entry, words, seconds, thirds};
+ghost use Rattle.grammar.specs.Kinds.{kinds, rank, stands, childPlace};
+ghost use Rattle.grammar.specs.Packed.{position, rowAt, placeOf, placesOf, textOf, restOf, numbersOf, unpack, entry, words, seconds, thirds};
 ghost use Rattle.grammar.specs.Family.{familyOf};
 
 // Where a term may stand: in a list (L), as an operand or a target (V), as data (D); as a package's element, a field's entry, a
@@ -40,11 +40,12 @@ pub enum Text {
     DescriptorText,
 }
 
-// How a and x are written: as so many bytes of one number, base + a + (limit of a + 1) * x, or with x and a the other way round; a as
-// the flags of a field; x as an integer; x as the length of a field's entry.
+// How a and x are written: base + a in so many bytes; a method's flags, a + 8 times x; a power resource's level x, then its order a; a
+// as the flags of a field; x as an integer; x as the length of a field's entry.
 pub enum Numbers {
     Digits { width: u64, base: u64 },
-    Swapped { width: u64 },
+    MethodFlags,
+    LevelOrder,
     FieldFlags,
     IntegerX,
     LengthX,
@@ -140,10 +141,11 @@ fn numbers_of(c: u64, width: u64, base: u64) -> Numbers
     ensures { λ r. ⌜ r ≡ numbersOf c width base ⌝ }
 {
     match c {
-        1 => Numbers::Swapped { width },
-        2 => Numbers::FieldFlags,
-        3 => Numbers::IntegerX,
-        4 => Numbers::LengthX,
+        1 => Numbers::MethodFlags,
+        2 => Numbers::LevelOrder,
+        3 => Numbers::FieldFlags,
+        4 => Numbers::IntegerX,
+        5 => Numbers::LengthX,
         _ => Numbers::Digits { width, base },
     }
 }
@@ -246,16 +248,16 @@ fn second_of(c: u64) -> u64
     ensures { λ r. ⌜ r ≡ entry seconds 1 c ⌝ }
 {
     match c {
-        1 => 0xE008,
-        2 => 0x1FFFE019,
-        3 => 0x1FE002,
+        1 => 0xE001,
+        2 => 0x1FFFE002,
+        3 => 0x1FE003,
         4 => 0x12008,
         5 => 0x1E008,
         6 => 0x1FFFE010,
         7 => 0xEC08,
         8 => 0xCD08,
-        9 => 0x3,
-        10 => 0x4,
+        9 => 0x4,
+        10 => 0x5,
         11 => 0x1FFFE000,
         _ => 0,
     }
@@ -353,18 +355,6 @@ pub fn numbers_at(j: usize) -> Numbers
 {
     let v = second_of(word_of(j) / 0x40000000000000);
     numbers_of(v % 8, v / 8 % 4, v / 32 % 256)
-}
-
-pub fn alimit_at(j: usize) -> u64
-    ensures { λ r. ⌜ r ≡ rowAt j .alimit ⌝ }
-{
-    second_of(word_of(j) / 0x40000000000000) / 8192
-}
-
-pub fn xlimit_at(j: usize) -> u64
-    ensures { λ r. ⌜ r ≡ rowAt j .xlimit ⌝ }
-{
-    third_of(word_of(j) / 0x40000000000000)
 }
 
 pub fn last_at(j: usize) -> bool

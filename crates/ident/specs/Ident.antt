@@ -7,7 +7,6 @@ use Prim.Native.Nat.{ℕ, suc, _+_, _-_, _*_, _^_}
 use lib.Dec.{eqb, leb}
 use lib.ListN.{length, take, drop, getD}
 use Rattle.octets.specs.Bytes.{every, le, value}
-use Rattle.number.specs.Integer.{integer}
 use Rattle.number.specs.Buffer.{buffer}
 
 unfoldable pub isLetter : ℕ → Bool
@@ -43,9 +42,6 @@ swapBytes n = value (reverse (le 4 n))
 
 unfoldable pub eisaId : List ℕ → ℕ
 eisaId t = swapBytes (eisaBits t)
-
-unfoldable pub eisaName : List ℕ → List ℕ
-eisaName t = integer (eisaId t)
 
 -- ── UUID: where each byte's two digits stand in the text, in the order in which the bytes are written
 abbrev pub uuidPlaces : List ℕ

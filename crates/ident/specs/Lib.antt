@@ -1,5 +1,6 @@
 pub mod Ident
 pub mod EisaOf
+pub mod EisaLaws
 pub mod Gas
 pub mod Parts
 pub mod Each

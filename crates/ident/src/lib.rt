@@ -6,7 +6,7 @@ ghost use lib.ListN.{length, getD};
 ghost use Rattle.octets.specs.Bytes.{every};
 ghost use Rattle.octets.specs.Filling.{Wrote};
 ghost use Rattle.ident.specs.Ident.{isLetter, isHex, hexDigit, isEisa, eisaBits, swapBytes, uuidPlaces, isUuid, uuidBytes};
-ghost use Rattle.ident.specs.EisaOf.{eisaOf};
+ghost use Rattle.ident.specs.EisaOf.{named, eisaOf};
 ghost use Rattle.ident.specs.Gas.{accessSize, made};
 ghost use Rattle.ident.specs.Parts.{charTest, letterBits, isHyphened, isPair, pairByte};
 use octets::between;
@@ -135,7 +135,7 @@ fn swap_bytes(n: u64) -> u64
 
 // Three uppercase letters and four hexadecimal digits in either case, as `PNP0A03`.
 pub fn eisa_name(t: &[u8]) -> EISAName
-    ensures { λ r. ⌜ r ≡ eisaOf (now (t .entry)) ⌝ }
+    ensures { λ r. ⌜ named r ≡ eisaOf (now (t .entry)) ⌝ }
 {
     if is_eisa(t) {
         EISAName::Value {

@@ -356,16 +356,7 @@ fn spaces() {
     );
 }
 
-// The front of a template of n bytes of descriptors, and its end.
-fn front_into(n: u64, out: &mut [u8]) -> usize {
-    if out.len() < 16 {
-        return 0;
-    }
-    if 268435438 < n {
-        return 0;
-    }
-    descriptor::put_template_front(n, out)
-}
+// ── The end of a template
 
 fn end_into(out: &mut [u8]) -> usize {
     if out.len() < 16 {
@@ -374,20 +365,15 @@ fn end_into(out: &mut [u8]) -> usize {
     descriptor::put_end_tag(out)
 }
 
-fn template_line(n: u64, out: &mut [u8]) {
-    let k = front_into(n, out);
-    text(b"template of");
-    decimal(n);
-    text(b":");
-    bytes(out, k);
-    let e = end_into(out);
+fn end_line(out: &mut [u8]) {
+    let n = end_into(out);
     text(b"  end:");
-    bytes(out, e);
+    bytes(out, n);
 }
 
-fn template(n: u64) {
+fn end_tag() {
     let mut out = io::buffer();
-    template_line(n, &mut out);
+    end_line(&mut out);
 }
 
 // ── The sum
@@ -424,8 +410,6 @@ fn main() {
     identifiers();
     descriptors();
     spaces();
-    template(0);
-    template(12);
-    template(57);
+    end_tag();
     sums();
 }

@@ -1,6 +1,6 @@
 -- What the C face hands over: the answers of the calls below, in structs that C has. Document 01, "The growing table" (four entry points).
 -- Assumes nothing.
-use mathlib.Core.Path.{_≡_, sym, _∙_}
+use mathlib.Core.Path.{_≡_}
 use mathlib.Core.List.{List}
 use Prim.Native.Nat.{ℕ}
 use Rattle.checker.specs.declared.Verdict.{Verdict}
@@ -23,10 +23,6 @@ verdictOf v = record { number = v .number; index = v .index; length = 0 }
 pub record Faced (r : AcpiAnswer) (out : List ℕ) (o : Outcome) : Type 0 where
   pub answer : r ≡ faceOf (o .answer)
   pub output : out ≡ o .output
-
--- number, index, length and every byte of the output are determined
-pub faced-determined : (o : Outcome) {r s : AcpiAnswer} {out out′ : List ℕ} → Faced r out o → Faced s out′ o → (r ≡ s) × (out ≡ out′)
-faced-determined o h k = (h .answer ∙ sym (k .answer), h .output ∙ sym (k .output))
 
 -- ── Edits: the record is two numbers of the struct
 abbrev pub recordOf : ℕ → ℕ → Sdt

@@ -1,6 +1,6 @@
 -- An index that is handed over is at most the record count, so it fits the C face's 32 bits; and how the calls below meet the face.
 -- Assumes nothing.
-use mathlib.Core.Path.{_≡_, refl, _∙_, ap}
+use mathlib.Core.Path.{_≡_, refl, _∙_, ap, sym}
 use mathlib.Core.Bool.{Bool, true, false, _||_, not, cond}
 use mathlib.Core.Option.{Option, none, some}
 use mathlib.Core.List.{List, [], _∷_, _++_}
@@ -22,18 +22,29 @@ use Rattle.arity.specs.Arity.{Arity, aritiesFit}
 use Rattle.checker.specs.declared.Verdict.{Verdict}
 use Rattle.checker.specs.Refusal.{verdict, Owed, next, later, kidsOf, faultOf, scan, recordSection, aritySection, poolSection, refusalOf}
 use Rattle.normal.specs.File.{fileOf}
-use Rattle.checker.specs.Accepted.{forestOf}
+use Rattle.checker.specs.Described.{forestOf}
 use Rattle.sdt.specs.declared.Edit.{Edit}
 use Rattle.sdt.specs.Edit as sdt
-use Rattle.sdt.specs.Answer.{Left}
+use Rattle.sdt.specs.Edit.{Left}
+use Rattle.sdt.specs.EditLaws.{left-determined}
 use Rattle.encode.specs.declared.Answer.{Answer}
-use Rattle.encode.specs.Encode.{tableOf, lateNumber, Outcome, refusedBy, handed, described, outcomeOf, encodeOf}
-use Rattle.encode.specs.Answer.{Answered}
+use Rattle.encode.specs.Encode.{tableOf, lateNumber, Outcome, refusedBy, handed, described, outcomeOf, encodeOf, Answered}
 use Rattle.encode.specs.AcceptLaws.{layout-sized}
 use Rattle.whole.specs.Whole.{listOf, normaliseOf, identityOf, treeIn, readIn, readOf}
 use Rattle.monitor.specs.declared.AcpiAnswer.{AcpiAnswer}
 use Rattle.monitor.specs.declared.AcpiEdit.{AcpiEdit}
 use Rattle.monitor.specs.Face.{faceOf, verdictOf, Faced, editOf}
+
+-- ── Two answers to one call are equal
+-- number, index, length and every byte of the output are determined
+pub faced-determined : (o : Outcome) {r s : AcpiAnswer} {out out′ : List ℕ} → Faced r out o → Faced s out′ o → (r ≡ s) × (out ≡ out′)
+faced-determined o h k = (h .answer ∙ sym (k .answer), h .output ∙ sym (k .output))
+
+-- and so are number, length and checksum of an edit, and every byte of its buffer
+pub edited-determined : (o : sdt.Outcome) {r s : AcpiEdit} {out out′ : List ℕ} → Left (editOf r) out o → Left (editOf s) out′ o → (r ≡ s) × (out ≡ out′)
+edited-determined o h k =
+    let (e, b) = left-determined h k in
+    (ap {B = AcpiEdit} (λ (d : Edit). record { number = d .number; length = d .table .length; checksum = d .table .checksum }) e, b)
 
 -- ── The index of a refusal
 scan-index : (arities pool : List ℕ) (rs : List Record) (i : ℕ) (q : List Owed) → scan arities pool rs i q .index ≤ i + length rs

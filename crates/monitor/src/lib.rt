@@ -3,8 +3,7 @@
 ghost use mathlib.Core.Path.{_≡_};
 ghost use Prim.Native.Nat.{_<_};
 ghost use Rattle.checker.specs.Refusal.{refusalOf};
-ghost use Rattle.sdt.specs.Edit.{newOf, appendOf, writeOf};
-ghost use Rattle.sdt.specs.Answer.{Left};
+ghost use Rattle.sdt.specs.Edit.{newOf, appendOf, writeOf, Left};
 ghost use Rattle.encode.specs.Encode.{encodeOf};
 ghost use Rattle.whole.specs.Whole.{normaliseOf, readOf};
 ghost use Rattle.monitor.specs.Face.{Faced, faceOf, verdictOf, editOf, recordOf};

@@ -24,7 +24,7 @@ use Rattle.fields.specs.Written.{textBytes, fieldBytes}
 use Rattle.fields.specs.WrittenLaws.{readableText, readable, normal-readable}
 use Rattle.tree.specs.Fits.{Args, fine, known, termFits, Fits}
 use Rattle.tree.specs.Bytes.{front, back, before, behind, body, box, termBytes, bytes}
-use Rattle.tree.specs.Normal.{normal}
+use Rattle.tree.specs.IsNormal.{normal}
 use Rattle.tree.specs.StartLaws.{opensForm, opensText, opens, fields-start}
 use Rattle.tree.specs.TableLaws.{normal-row, normal-found}
 use Rattle.tree.specs.BodyLaws.{box-least}

@@ -21,7 +21,8 @@ use Rattle.term.specs.File.{magic, identity, touching, laidOut, few, layoutOf}
 use Rattle.term.specs.Record.{recordsFrom}
 use Rattle.arity.specs.Arity.{Arity, aritiesOf, ascend, aritiesFit, argsIn, argsOf}
 use Rattle.checker.specs.Refusal.{verdict, recordSection, aritySection, poolSection, refusalOf}
-use Rattle.checker.specs.Accepted.{termOf, forestOf, accepted-back, fits-meets}
+use Rattle.checker.specs.Accepted.{accepted-back, fits-meets}
+use Rattle.checker.specs.Described.{termOf, forestOf}
 use Rattle.normal.specs.File.{recordsBytes, termTexts, aritiesBytes, arityTexts, headerBytes, fileOf}
 use Rattle.normal.specs.Stands.{Stands, stands-whole, stands-left, stands-right, stands-part, stands-between, stands-field, stands-byte, stands-begins}
 use Rattle.normal.specs.Writable.{Every, Callable, Writable}

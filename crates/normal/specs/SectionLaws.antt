@@ -19,7 +19,8 @@ use Rattle.arity.specs.declared.Entry.{Entry}
 use Rattle.arity.specs.Arity.{Arity, entryAt, entriesOf, entriesFrom, arityIn, aritiesOf, entryFits, entriesFit, ascend, aritiesFit}
 use Rattle.arity.specs.ArityLaws.{entry-made}
 use Rattle.checker.specs.Refusal.{textOf, inPool}
-use Rattle.checker.specs.Accepted.{termOf, InPool}
+use Rattle.checker.specs.Accepted.{InPool}
+use Rattle.checker.specs.Described.{termOf}
 use Rattle.normal.specs.File.{startOf, recordBytes, recordsBytes, termTexts, arityBytes, aritiesBytes, arityTexts}
 use Rattle.normal.specs.Stands.{Stands, stands-whole, stands-in, stands-left, stands-right, stands-part, stands-number, stands-field}
 use Rattle.normal.specs.Writable.{Every, TermSizes, AritySizes, Callable}

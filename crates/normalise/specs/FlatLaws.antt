@@ -16,7 +16,7 @@ use Rattle.term.specs.declared.Record.{Record}
 use Rattle.term.specs.Record.{recordAt, recordsOf, recordsFrom, textAt}
 use Rattle.term.specs.RecordLaws.{records-length}
 use Rattle.checker.specs.Refusal.{textOf}
-use Rattle.checker.specs.Accepted.{termOf}
+use Rattle.checker.specs.Described.{termOf}
 use Rattle.normal.specs.File.{termTexts}
 use Rattle.normal.specs.SectionLaws.{texts-append}
 use Rattle.encode.specs.Walk.{list, term}

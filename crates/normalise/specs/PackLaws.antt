@@ -19,7 +19,7 @@ use Rattle.fields.specs.Fields.{textSpelled, spelled}
 use Rattle.term.specs.declared.Record.{Record}
 use Rattle.term.specs.Record.{recordAt, textAt}
 use Rattle.checker.specs.Refusal.{textOf}
-use Rattle.checker.specs.Accepted.{termOf}
+use Rattle.checker.specs.Described.{termOf}
 use Rattle.normal.specs.File.{startOf, recordsBytes, termTexts}
 use Rattle.normal.specs.SectionLaws.{texts-append}
 use Rattle.repack.specs.Repack.{packed}

@@ -21,14 +21,15 @@ use Rattle.term.specs.File.{identity, layoutOf}
 use Rattle.arity.specs.Arity.{Arity, aritiesOf, argsOf}
 use Rattle.checker.specs.declared.Verdict.{Verdict}
 use Rattle.checker.specs.Refusal.{part, refusalOf, recordSection, aritySection, poolSection}
-use Rattle.checker.specs.Accepted.{forestOf, accepted-forest}
+use Rattle.checker.specs.Accepted.{accepted-forest}
+use Rattle.checker.specs.Described.{forestOf}
 use Rattle.normal.specs.File.{headerBytes, recordsBytes, termTexts, aritiesBytes, arityTexts, fileOf}
 use Rattle.normal.specs.FileLaws.{file-length}
 use Rattle.encode.specs.declared.Answer.{Answer}
-use Rattle.encode.specs.Encode.{described}
+use Rattle.encode.specs.Encode.{described, Answered}
 use Rattle.encode.specs.Walk.{Part, below, walk-forest, walk-all}
 use Rattle.encode.specs.WalkLaws.{termsFrom, terms-more, Measured}
-use Rattle.encode.specs.Answer.{Answered, whole, figuresNumber, figures-within, walked, outcome-refused}
+use Rattle.encode.specs.Answer.{whole, figuresNumber, figures-within, walked, outcome-refused}
 use Rattle.encode.specs.LateLaws.{body-most, kids-most, terms-count, outcome-accepted}
 use Rattle.encode.specs.AcceptLaws.{pool-ends, accepted-sound, identity-length}
 use Rattle.whole.specs.Whole.{listOf, normaliseOf}

@@ -1,6 +1,6 @@
 -- Laws of buffers: the bytes before a buffer's own, and how many they are.
 -- For the proofs of this crate and for the writers of buffers. Assumes nothing.
-use mathlib.Core.Path.{_≡_, refl, _∙_}
+use mathlib.Core.Path.{_≡_, refl}
 use mathlib.Core.Bool.{true}
 use mathlib.Core.List.{List, _++_, append-assoc}
 use Prim.Native.Nat.{ℕ, _+_, _≤_}
@@ -11,7 +11,7 @@ use Rattle.number.specs.Integer.{integer}
 use Rattle.number.specs.PkgLength.{following, pkgLength}
 use Rattle.number.specs.Buffer.{boxed, buffer, bufferFront}
 use Rattle.number.specs.IntegerLaws.{integer-most}
-use Rattle.number.specs.PkgLengthLaws.{following-most, following-far, pkg-length-length}
+use Rattle.number.specs.PkgLengthLaws.{following-most, pkg-length-length}
 
 pub buffer-front : (bs : List ℕ) → buffer bs ≡ bufferFront (length bs) ++ bs
 unfolding boxed buffer bufferFront
@@ -23,15 +23,6 @@ buffer-front-length n = simp length-append (omega (arith, pkg-length-length true
 
 pub buffer-front-most : (n : ℕ) → length (bufferFront n) ≤ 14
 buffer-front-most n = omega (arith, buffer-front-length n, following-most (length (integer n) + n), integer-most n)
-
--- the same, for code that has computed its parts: w is the size of the integer n, k that of the length
-pub buffer-front-counts : (n : ℕ) {w k : ℕ} → w ≡ length (integer n) → k ≡ length (pkgLength (w + n)) → k + w + 1 ≡ length (bufferFront n)
-buffer-front-counts n {w} {k} e f =
-    let g : k ≡ following (length (integer n) + n) + 1 = f ∙ rw e (pkg-length-length true (length (integer n) + n)) in
-    omega (arith, buffer-front-length n)
-
-pub buffer-front-far : (n : ℕ) {w : ℕ} → w ≡ length (integer n) → 1048573 ≤ n → w + 5 ≡ length (bufferFront n)
-buffer-front-far n e h = omega (arith, buffer-front-length n, following-far (length (integer n) + n) (omega arith))
 
 -- ── Writing it: the opcode, then the length, then the size
 module _ (n : ℕ) (first : List ℕ) (h : length (bufferFront n) ≤ length first) {w : ℕ} (e : w ≡ length (integer n)) where

@@ -16,7 +16,8 @@ use Rattle.octets.specs.Laws.{le-length, le-exact}
 use Rattle.octets.specs.Reading.{Reads, reads, reads-none, past-end, next-byte}
 use Rattle.octets.specs.declared.Num.{Num}
 use Rattle.octets.specs.declared.Num.the-variants as num
-use Rattle.number.specs.Integer.{width, prefix, integer, announced, getInteger}
+use Rattle.number.specs.Integer.{width, prefix, integer}
+use Rattle.number.specs.Get.{announced, getInteger}
 use Rattle.number.specs.Lead.{steps, by-steps, lead-bytes, tested-short, tested-not, tested-done}
 
 -- ── Widths

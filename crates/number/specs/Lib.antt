@@ -1,4 +1,5 @@
 pub mod Integer
+pub mod Get
 pub mod PkgLength
 pub mod Buffer
 pub mod Lead

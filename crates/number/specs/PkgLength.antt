@@ -1,12 +1,11 @@
 -- The length of a body of n bytes, which counts itself, and of a field entry of n bits, which does not: 1 to 4 bytes, by the same thresholds.
 -- Document 01, "Bytes" (PkgLength); ACPI 6.4, 20.2.4 (PkgLength, PkgLeadByte). `create_pkg_length` of the crate.
 -- Assumes nothing.
-use mathlib.Core.Bool.{Bool, true, false, _&&_, cond}
-use mathlib.Core.Option.{none, some}
+use mathlib.Core.Bool.{Bool, true, false, cond}
 use mathlib.Core.List.{List, [], _∷_}
-use Prim.Native.Nat.{ℕ, zero, suc, _+_, _-_, _*_, _/_, _%_}
-use lib.Dec.{eqb, ltb, leb}
-use Rattle.octets.specs.Bytes.{Reader, _>>=_, need, le, getLe}
+use Prim.Native.Nat.{ℕ, zero, suc, _+_, _*_, _/_, _%_}
+use lib.Dec.{ltb}
+use Rattle.octets.specs.Bytes.{le}
 
 -- how many bytes follow the first
 unfoldable pub following : ℕ → ℕ
@@ -35,20 +34,3 @@ pkgLength n = createPkgLength true n
 
 abbrev pub fieldLength : ℕ → List ℕ
 fieldLength n = createPkgLength false n
-
--- ── Reading: bits 4 and 5 of a long length must be 0, and it must be the one that is written for its n
-unfoldable pub getLength : ℕ → ℕ → Reader ℕ
-getLength zero b bs = some (b, bs)
-getLength (suc k) b bs = need (ltb (b % 64) 16) (do
-  (x, r) ← getLe (suc k) bs
-  some (b % 16 + 16 * x, r))
-
--- m, with k bytes after the first, is the length of some n in its shortest form
-unfoldable pub shortest : Bool → ℕ → ℕ → Bool
-shortest self k m = leb (own self k) m && leb (m - own self k) (largest self) && eqb (following (m - own self k)) k
-
-unfoldable pub getPkgLength : Bool → Reader ℕ
-getPkgLength self [] = none
-getPkgLength self (b ∷ bs) = do
-  (m, r) ← getLength (b / 64) b bs
-  need (shortest self (b / 64) m) (some (m - own self (b / 64), r))

@@ -16,7 +16,8 @@ use Rattle.octets.specs.Laws.{le-length, le-exact}
 use Rattle.octets.specs.Reading.{Reads, reads-none, past-end, next-byte}
 use Rattle.octets.specs.declared.Num.{Num}
 use Rattle.octets.specs.declared.Num.the-variants as num
-use Rattle.number.specs.PkgLength.{following, own, largest, lengthBytes, createPkgLength, getLength, shortest, getPkgLength}
+use Rattle.number.specs.PkgLength.{following, own, largest, lengthBytes, createPkgLength}
+use Rattle.number.specs.Get.{getLength, shortest, getPkgLength}
 use Rattle.number.specs.Lead.{steps, by-steps, steps-most, lead-bytes, tested-short, tested-not, tested-done}
 
 -- ── Sizes
@@ -30,9 +31,6 @@ by-following P n f₀ f₁ f₂ f₃ = rw (following-steps n) (by-steps n 63 409
 
 pub following-most : (n : ℕ) → following n ≤ 3
 following-most n = rw (following-steps n) (steps-most n 63 4094 1048573)
-
-pub following-far : (n : ℕ) → 1048573 ≤ n → following n ≡ 3
-following-far n = by-following (λ k. 1048573 ≤ n → k ≡ 3) n (λ l h. absurd (omega arith)) (λ l h. absurd (omega arith)) (λ l h. absurd (omega arith)) (λ l h. refl)
 
 pub own-most : (self : Bool) (k : ℕ) → own self k ≤ k + 1
 own-most true k = omega arith

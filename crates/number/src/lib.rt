@@ -8,9 +8,10 @@ ghost use Rattle.octets.specs.Bytes.{le};
 ghost use Rattle.octets.specs.Filling.{Wrote};
 ghost use Rattle.octets.specs.Reading.{Reads};
 ghost use Rattle.number.specs.Lead.{steps};
-ghost use Rattle.number.specs.Integer.{width, announced, integer, getInteger};
+ghost use Rattle.number.specs.Integer.{width, integer};
+ghost use Rattle.number.specs.Get.{announced, getInteger, shortest, getPkgLength};
 ghost use Rattle.number.specs.IntegerLaws.{ownForm};
-ghost use Rattle.number.specs.PkgLength.{following, own, largest, shortest, createPkgLength, getPkgLength};
+ghost use Rattle.number.specs.PkgLength.{following, own, largest, createPkgLength};
 ghost use Rattle.number.specs.PkgLengthLaws.{leadOf, malformed, whole};
 ghost use Rattle.number.specs.Buffer.{bufferFront};
 use octets::Num;
@@ -247,17 +248,6 @@ pub fn pkg_length_at(b: &[u8], at: usize, include_self: bool) -> Num
 }
 
 // ── What stands before a buffer's n bytes
-
-pub fn buffer_front_len(n: u64) -> usize
-    ensures { λ r. ⌜ r ≡ length (bufferFront n) ⌝ }
-{
-    let w = int_len(n);
-    // beyond this the length has its greatest size, and the sum below could wrap
-    if 1048573 <= n {
-        return w + 5;
-    }
-    pkg_length_len(w as u64 + n) + w + 1
-}
 
 pub fn put_buffer_front(n: u64, out: &mut [u8]) -> usize
     requires { ⌜ (length (bufferFront n) ≤ length (now out)) × (n ≤ 268435440) ⌝ }

@@ -6,4 +6,5 @@ pub mod Filling
 pub mod Known
 pub mod Reading
 pub mod Sum
+pub mod SumLaws
 pub mod Matches

@@ -1,4 +1,5 @@
 pub mod Path
+pub mod Get
 pub mod PathLaws
 pub mod PathText
 pub mod PathReading

@@ -13,7 +13,8 @@ use Rattle.octets.specs.Tests.{took, gave}
 use Rattle.octets.specs.Reading.{Reads, reads, reads-determined}
 use Rattle.octets.specs.declared.Num.{Num}
 use Rattle.octets.specs.declared.Num.the-variants as num
-use Rattle.path.specs.Path.{isPath, pathBytes, getPathText, getPathLength, pathText}
+use Rattle.path.specs.Path.{isPath, pathBytes}
+use Rattle.path.specs.Get.{getPathText, getPathLength, pathText}
 use Rattle.path.specs.PathLaws.{path-text-exact}
 
 -- what is read is a path's text, and its length is the number that is answered

@@ -13,7 +13,8 @@ use Rattle.octets.specs.Bytes.{Reader, _>>=_, need, every, isByte, cut}
 use Rattle.octets.specs.Tests.{and-left, and-right, and-both, or-case, or-left, not-equal, cond-false, cond-case, cond-inv, took, took₁, gave, need-inv, need-true}
 use Rattle.octets.specs.Laws.{cut-back, cut-only, every-join}
 use Rattle.octets.specs.Exact.{Exact}
-use Rattle.path.specs.Path.{leadName, nameChar, segment, Path, segments, wellFormed, rootOf, unroot, joined, textOf, partsOf, pathOf, isPath, countBytes, bytesOf, pathBytes, getCount, getParts, getPath, getPathText, nameStart}
+use Rattle.path.specs.Path.{leadName, nameChar, segment, Path, rootOf, unroot, partsOf, pathOf, isPath, countBytes, bytesOf, pathBytes}
+use Rattle.path.specs.Get.{segments, wellFormed, joined, textOf, getCount, getParts, getPath, getPathText, nameStart}
 
 -- ── Segments
 pub segment-length : (s : List ℕ) → T (segment s) → length s ≡ 4

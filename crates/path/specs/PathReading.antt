@@ -15,7 +15,8 @@ use Rattle.octets.specs.Tests.{true-test}
 use Rattle.octets.specs.Laws.{cut-at, cut-short}
 use Rattle.octets.specs.Reading.{Got, Reads, reads, reads-none, next-byte, past-end}
 use Rattle.octets.specs.declared.Num.the-variants as num
-use Rattle.path.specs.Path.{segment, segments, rootOf, unroot, joined, textOf, getCount, getParts, getPath, getPathText, getPathLength}
+use Rattle.path.specs.Path.{segment, rootOf, unroot}
+use Rattle.path.specs.Get.{segments, joined, textOf, getCount, getParts, getPath, getPathText, getPathLength}
 use Rattle.path.specs.PathLaws.{segment-length, segment-not, counted, count-marks, count-only, names-only, flat-length, joined-length, rootSize}
 use Rattle.path.specs.PathText.{segmentAt, root-drop}
 

@@ -12,7 +12,7 @@ use lib.Seq.{length-take-le, take-all, take-append-seam, take-append-add, getD-a
 use borrow.Author.Tests.{ne-eqb}
 use Rattle.octets.specs.Bytes.{le}
 use Rattle.octets.specs.Filling.{lent}
-use Rattle.path.specs.Path.{pathText}
+use Rattle.path.specs.Get.{pathText}
 use Rattle.path.specs.PathLaws.{fours}
 use Rattle.path.specs.PathWriting.{strung, strung-one, strung-more, TextAt}
 

@@ -16,7 +16,8 @@ use Rattle.octets.specs.Bytes.{_>>=_, le}
 use Rattle.octets.specs.Tests.{and-left, and-right, took, gave}
 use Rattle.octets.specs.Filling.{Parts, parts₂, parts₃, Wrote, Filling, lent, returned, filling-start, filling-lent, filling-end}
 use Rattle.octets.specs.Reading.{Got}
-use Rattle.path.specs.Path.{Path, segment, segments, joined, rootOf, textOf, isPath, countBytes, bytesOf, pathBytes, getPath, getPathText, getPathLength, pathText}
+use Rattle.path.specs.Path.{Path, segment, rootOf, isPath, countBytes, bytesOf, pathBytes}
+use Rattle.path.specs.Get.{segments, joined, textOf, getPath, getPathText, getPathLength, pathText}
 use Rattle.path.specs.PathLaws.{segment-length, fours, flat-length, joined-length, rootSize, partCount, Measured, path-parts, path-text-length, PathRead, path-read}
 use Rattle.path.specs.PathText.{root-take, root-drop, root-room}
 

@@ -14,8 +14,7 @@ use Rattle.tree.specs.Read.{parse}
 use Rattle.arity.specs.Arity.{aritiesOf, aritiesFit, argsOf}
 use Rattle.normal.specs.File.{recordsBytes, termTexts, aritiesBytes, arityTexts, fileOf}
 use Rattle.encode.specs.Encode.{Outcome, described}
-use Rattle.whole.specs.Whole.{identityOf, treeIn, readIn}
-use Rattle.whole.specs.ReadLaws.{Framed}
+use Rattle.whole.specs.Whole.{identityOf, treeIn, readIn, Framed}
 
 -- 20, 12 or 21, or 0
 unfoldable pub tableNumber : List ℕ → ℕ

@@ -30,12 +30,10 @@ use Rattle.normal.specs.SectionLaws.{records-length, entries-length}
 use Rattle.normal.specs.Writable.{Every, TermSizes}
 use Rattle.normal.specs.WritableLaws.{fits-writable}
 use Rattle.encode.specs.declared.Answer.{Answer}
-use Rattle.encode.specs.Encode.{refusedBy, handed, described}
-use Rattle.encode.specs.Answer.{Answered}
-use Rattle.whole.specs.Whole.{listOf, identityOf, treeIn, readIn, readOf}
+use Rattle.encode.specs.Encode.{refusedBy, handed, described, Answered}
+use Rattle.whole.specs.Whole.{listOf, identityOf, treeIn, readIn, readOf, Framed}
 use Rattle.whole.specs.ListLaws.{sizes, texts-short, arities-callable, arities-count, layout-room}
 use Rattle.whole.specs.TableLaws.{identity-length}
-use Rattle.whole.specs.ReadLaws.{Framed}
 use Rattle.walk.specs.declared.Walk.{Walk}
 use Rattle.walk.specs.Walk.{forest, Walks, Spans, Walkable}
 use Rattle.walk.specs.Spots.{Left}

@@ -6,7 +6,7 @@ ghost use lib.ListN.{length};
 ghost use Rattle.octets.specs.Filling.{Wrote};
 ghost use Rattle.arity.specs.Arity.{aritiesFit};
 ghost use Rattle.normal.specs.File.{headerBytes};
-ghost use Rattle.encode.specs.Answer.{Answered};
+ghost use Rattle.encode.specs.Encode.{Answered};
 ghost use Rattle.whole.specs.Whole.{identityOf, readOf};
 ghost use Rattle.reader.specs.Reader.{tableNumber, listBytes, bodyBytes, readFile, readSections, Ready, Room};
 

@@ -8,19 +8,8 @@ use lib.Dec.{ltb}
 use lib.ListN.{length, take, drop, getD, replicate}
 use Rattle.octets.specs.Bytes.{le}
 use Rattle.sdt.specs.Table.{sealed}
-use Rattle.sdt.specs.Edit.{Outcome, largestTable}
+use Rattle.sdt.specs.Edit.{largestTable}
 use Rattle.sdt.specs.declared.Sdt.{Sdt}
-use Rattle.sdt.specs.declared.Edit.{Edit}
-
--- the answer r and the buffer as it is left are those of the outcome
-pub record Left (r : Edit) (out : List ℕ) (o : Outcome) : Type 0 where
-  pub number : r .number ≡ o .number
-  pub table : r .table ≡ o .table
-  pub is : out ≡ o .buffer
-
--- the same of a record that was changed in place
-abbrev pub Leaves : ℕ → Sdt → List ℕ → Outcome → Type 0
-Leaves n t out o = Left (record { number = n; table = t }) out o
 
 -- the table t is sealed in out, and r is its record
 pub record Sealed (t : List ℕ) (r : Sdt) (out : List ℕ) : Type 0 where

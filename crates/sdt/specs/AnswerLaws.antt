@@ -17,8 +17,8 @@ use Rattle.sdt.specs.TableLaws.{measured-is, sealed-is, measured-length,
 use Rattle.octets.specs.Reading.{Digits}
 use Rattle.octets.specs.Sum.{byteSum, negated}
 use Rattle.sdt.specs.Table.{measured, sealed, newTable, appended, overwritten, opened}
-use Rattle.sdt.specs.Edit.{Outcome, refused, accepted, sound, writable, sized, newOf, appendOf, writeOf}
-use Rattle.sdt.specs.Answer.{Left, Sealed, zeros, sizeNumber, header}
+use Rattle.sdt.specs.Edit.{Outcome, refused, accepted, sound, writable, sized, newOf, appendOf, writeOf, Left}
+use Rattle.sdt.specs.Answer.{Sealed, zeros, sizeNumber, header}
 use Rattle.sdt.specs.declared.Sdt.{Sdt}
 
 -- ── The tests

@@ -1,14 +1,17 @@
 -- The edits of a growing table: which are refused, with what number, and what is left in the record and in the buffer.
 -- Document 01, "The growing table" and "Refusal numbers" (20, 23, 12, 14, in this order). `Sdt` of the crate.
 -- Assumes nothing.
-use mathlib.Core.Bool.{Bool, _&&_, _||_, not, cond}
+use mathlib.Core.Bool.{Bool, _&&_, _||_, not, cond, true}
 use mathlib.Core.List.{List}
+use mathlib.Core.Path.{_≡_}
 use Prim.Native.Nat.{ℕ, _+_}
 use lib.Dec.{eqb, leb, ltb}
 use lib.ListN.{length, take, getD}
 use Rattle.octets.specs.Bytes.{leAt, laid}
-use Rattle.sdt.specs.Table.{newTable, appended, overwritten}
+use Rattle.sdt.specs.Table.{newTable, appended, overwritten, sealed}
 use Rattle.sdt.specs.declared.Sdt.{Sdt}
+use Rattle.sdt.specs.declared.Edit.{Edit}
+use Rattle.octets.specs.Sum.{byteSum}
 
 -- the answer's number, and the record and the buffer as they are left
 pub record Outcome : Type 0 where
@@ -54,3 +57,19 @@ writeOf t b offset piece =
     cond (not (sound t b)) (refused 20 t b)
     (cond (not (writable (t .length) offset (length piece))) (refused 23 t b)
     (sized (t .length) (overwritten (take (t .length) b) offset piece) t b))
+
+-- the answer r and the buffer as it is left are those of the outcome
+pub record Left (r : Edit) (out : List ℕ) (o : Outcome) : Type 0 where
+  pub number : r .number ≡ o .number
+  pub table : r .table ≡ o .table
+  pub is : out ≡ o .buffer
+
+-- the same of a record that was changed in place
+abbrev pub Leaves : ℕ → Sdt → List ℕ → Outcome → Type 0
+Leaves n t out o = Left (record { number = n; table = t }) out o
+
+-- the record is sound, and so is taken by the next edit; its table is sealed, and sums to 0
+pub record Standing (o : Outcome) : Type 0 where
+  pub sound : sound (o .table) (o .buffer) ≡ true
+  pub again : sealed (take (o .table .length) (o .buffer)) ≡ take (o .table .length) (o .buffer)
+  pub sums : byteSum (take (o .table .length) (o .buffer)) ≡ 0

@@ -9,11 +9,10 @@ use lib.Dec.{ltb}
 use lib.ListN.{length, take, drop, getD, length-append, length-drop}
 use lib.Seq.{take-append-seam, length-take-le}
 use borrow.Author.Tests.{ltb-false, le-leb, eq-eqb, not-false}
-use Rattle.octets.specs.Sum.{byteSum}
 use Rattle.sdt.specs.Table.{sealed, newTable, appended, overwritten, opened}
 use Rattle.sdt.specs.TableLaws.{sealed-length, sealed-sums, sealed-field, sealed-byte, sealed-again, over, over-length}
-use Rattle.sdt.specs.Edit.{Outcome, refused, accepted, sound, writable, sized, newOf, appendOf, writeOf}
-use Rattle.sdt.specs.Answer.{Left, zeros}
+use Rattle.sdt.specs.Edit.{Outcome, refused, accepted, sound, writable, sized, newOf, appendOf, writeOf, Left, Standing}
+use Rattle.sdt.specs.Answer.{zeros}
 use Rattle.sdt.specs.AnswerLaws.{sound-fits, writable-fits, opened-length}
 use Rattle.sdt.specs.declared.Sdt.{Sdt}
 use Rattle.sdt.specs.declared.Edit.{Edit}
@@ -21,12 +20,6 @@ use Rattle.sdt.specs.declared.Edit.{Edit}
 -- two answers to one call, to any of them, are equal: number, record, and every byte of the buffer
 pub left-determined : {r s : Edit} {out last : List ℕ} {o : Outcome} → Left r out o → Left s last o → (r ≡ s) × (out ≡ last)
 left-determined h k = (ap₂ {C = Edit} (λ (n : ℕ) (t : Sdt). record { number = n; table = t }) (h .number ∙ sym (k .number)) (h .table ∙ sym (k .table)), h .is ∙ sym (k .is))
-
--- the record is sound, and so is taken by the next edit; its table is sealed, and sums to 0
-pub record Standing (o : Outcome) : Type 0 where
-  pub sound : sound (o .table) (o .buffer) ≡ true
-  pub again : sealed (take (o .table .length) (o .buffer)) ≡ take (o .table .length) (o .buffer)
-  pub sums : byteSum (take (o .table .length) (o .buffer)) ≡ 0
 
 pub accepted-sound : (t b : List ℕ) → 36 ≤ length t → length t ≤ 268435455 → length t ≤ length b → Standing (accepted (sealed t) b)
 unfolding accepted sound

@@ -11,7 +11,8 @@ use lib.Seq.{take-at, drop-at, getD-at, set-at, drop-cons, getD-append-add, getD
 use borrow.Author.Tests.{ltb-true, ltb-false}
 use Rattle.octets.specs.Bytes.{le, leAt}
 use Rattle.octets.specs.Laws.{le-length, value-le}
-use Rattle.octets.specs.Sum.{byteSum, negated, sums-to-zero}
+use Rattle.octets.specs.Sum.{byteSum, negated}
+use Rattle.octets.specs.SumLaws.{sums-to-zero}
 use Rattle.sdt.specs.Table.{measured, sealed, appended, overwritten}
 
 pub measured-is : (t : List ℕ) → take 4 t ++ (le 4 (length t) ++ drop 8 t) ≡ measured t

@@ -5,8 +5,8 @@ ghost use Prim.Native.Nat.{_+_, _≤_, _<_};
 ghost use lib.Dec.{eqb, leb};
 ghost use lib.ListN.{length};
 ghost use Rattle.octets.specs.Filling.{Wrote};
-ghost use Rattle.sdt.specs.Edit.{sound, writable, newOf, appendOf, writeOf};
-ghost use Rattle.sdt.specs.Answer.{Left, Leaves, Sealed, zeros, sizeNumber, header};
+ghost use Rattle.sdt.specs.Edit.{sound, writable, newOf, appendOf, writeOf, Left, Leaves};
+ghost use Rattle.sdt.specs.Answer.{Sealed, zeros, sizeNumber, header};
 
 // The table's length and checksum.
 #[repr(C)]

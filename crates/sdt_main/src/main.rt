@@ -1,7 +1,6 @@
 // Runs the growing table: document 01's whole table in a new header and three appends, writes, and each refusal.
 // Each line is a call, its number, the record and every byte of the buffer as they are left.
-ghost use Rattle.sdt.specs.Edit.{newOf, appendOf, writeOf};
-ghost use Rattle.sdt.specs.Answer.{Left};
+ghost use Rattle.sdt.specs.Edit.{newOf, appendOf, writeOf, Left};
 use libc::STDOUT_FILENO;
 use sdt::Edit;
 use sdt::Sdt;

@@ -12,7 +12,7 @@ use lib.ListN.{length, take, drop, length-append, length-take, length-drop, take
 use lib.Seq.{length-take-le}
 use Rattle.octets.specs.Tests.{cond-true, cond-false, not-equal}
 use Rattle.octets.specs.Filling.{Wrote, Filling, filling-start, filling-left, filling-end, lent, returned}
-use Rattle.path.specs.Path.{pathText}
+use Rattle.path.specs.Get.{pathText}
 use Rattle.term.specs.declared.Record.{Record}
 use Rattle.term.specs.Record.{recordAt, recordsOf, textAt}
 use Rattle.term.specs.RecordLaws.{records-length}

@@ -7,7 +7,7 @@ use mathlib.Core.List.{List, [], _∷_, _++_}
 use Prim.Native.Nat.{ℕ, _+_, _-_, _*_, _≤_, _<_}
 use lib.ListN.{length, take, drop}
 use Rattle.octets.specs.Bytes.{laid}
-use Rattle.path.specs.Path.{pathText}
+use Rattle.path.specs.Get.{pathText}
 use Rattle.grammar.specs.Kinds.{rowOf, rowIn}
 use Rattle.term.specs.declared.Record.{Record}
 use Rattle.term.specs.Record.{recordsOf, textAt}

@@ -11,7 +11,7 @@ use lib.Seq.{drop-drop, drop-at}
 use Rattle.octets.specs.Bytes.{laid}
 use Rattle.octets.specs.Tests.{and-left, and-right}
 use Rattle.octets.specs.Laws.{no-bytes}
-use Rattle.path.specs.Path.{pathText}
+use Rattle.path.specs.Get.{pathText}
 use Rattle.path.specs.PathCode.{path-text-back}
 use Rattle.grammar.specs.declared.Text.{Text}
 use Rattle.grammar.specs.declared.Text.the-variants.{Unused, PathText, SegmentText, Ascii, AnyBytes, EisaText, UuidText, DescriptorText}
@@ -21,7 +21,7 @@ use Rattle.grammar.specs.Forest.{Fields, Term}
 use Rattle.fields.specs.Fields.{numbersFit, textFits, inRange, textSpelled, spelled}
 use Rattle.fields.specs.Written.{textBytes}
 use Rattle.fields.specs.WrittenLaws.{readableText, readable, normal-readable}
-use Rattle.tree.specs.Normal.{isNormal}
+use Rattle.tree.specs.IsNormal.{isNormal}
 use Rattle.tree.specs.TableLaws.{normal-row, normal-found}
 use Rattle.term.specs.declared.Record.{Record}
 use Rattle.term.specs.Record.{recordsOf, textAt}

@@ -6,7 +6,7 @@ ghost use lib.Dec.{eqb};
 ghost use lib.ListN.{length, drop, getD};
 ghost use Rattle.octets.specs.Bytes.{le, begins};
 ghost use Rattle.tree.specs.Read.{kindAt};
-ghost use Rattle.start.specs.Start.{Starts};
+ghost use Rattle.start.specs.Start.{startAt};
 ghost use Rattle.start.specs.Box.{Opens};
 use octets::Num;
 
@@ -57,7 +57,7 @@ fn is_opcode(n: usize, op: u64, b: &[u8], at: usize) -> bool
 
 // Where in the table of kinds the kind stands that begins here, may stand in this place, and has its opcode there; 57 is none.
 pub fn start_at(b: &[u8], at: usize, place: grammar::Place) -> usize
-    ensures { λ j. ⌜ Starts place (drop at (now (b .entry))) j ⌝ }
+    ensures { λ j. ⌜ j ≡ startAt place (drop at (now (b .entry))) ⌝ }
 {
     if b.len() <= at {
         return 57;

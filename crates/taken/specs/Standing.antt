@@ -12,13 +12,14 @@ use lib.Seq.{take-append-seam}
 use Rattle.octets.specs.Bytes.{begins}
 use Rattle.octets.specs.Tests.{and-left, and-right, took, gave}
 use Rattle.octets.specs.Laws.{begins-back}
-use Rattle.path.specs.Path.{pathText}
+use Rattle.path.specs.Get.{pathText}
 use Rattle.grammar.specs.declared.Text.{Text}
 use Rattle.grammar.specs.declared.Text.the-variants.{Unused, PathText, SegmentText, Ascii, AnyBytes, EisaText, UuidText, DescriptorText}
 use Rattle.grammar.specs.declared.Row.{Row}
 use Rattle.grammar.specs.Forest.{Fields}
 use Rattle.fields.specs.Fields.{textFits, inRange, spelled}
-use Rattle.fields.specs.Written.{textBytes, fieldBytes, getText, getForm, getFields}
+use Rattle.fields.specs.Written.{textBytes, fieldBytes}
+use Rattle.fields.specs.Get.{getText, getForm, getFields}
 use Rattle.fields.specs.WrittenLaws.{readable, fields-exact}
 use Rattle.taken.specs.Taken.{Took}
 

@@ -5,18 +5,17 @@ use mathlib.Core.Path.{_≡_}
 use mathlib.Core.Bool.{Bool, true, false, _&&_}
 use mathlib.Core.Option.{none, some}
 use mathlib.Core.List.{List}
-use Prim.Native.Nat.{ℕ, _+_, _-_, _/_, _%_, _≤_}
+use Prim.Native.Nat.{ℕ, _-_, _/_, _%_, _≤_}
 use lib.Dec.{leb}
 use lib.ListN.{length, drop}
 use Rattle.octets.specs.Bytes.{Reader, _>>=_, getLe}
-use Rattle.number.specs.Integer.{getInteger}
-use Rattle.number.specs.PkgLength.{getPkgLength}
+use Rattle.number.specs.Get.{getInteger, getPkgLength}
 use Rattle.grammar.specs.declared.Text.{Text}
 use Rattle.grammar.specs.declared.Numbers.{Numbers}
-use Rattle.grammar.specs.declared.Numbers.the-variants.{Digits, Swapped, FieldFlags, IntegerX, LengthX}
+use Rattle.grammar.specs.declared.Numbers.the-variants.{Digits, MethodFlags, LevelOrder, FieldFlags, IntegerX, LengthX}
 use Rattle.grammar.specs.declared.Row.{Row}
 use Rattle.fields.specs.Fields.{flagsFit}
-use Rattle.fields.specs.Written.{getText, getFields}
+use Rattle.fields.specs.Get.{getText, getFields}
 use Rattle.taken.specs.declared.Parts.{Parts}
 use Rattle.taken.specs.declared.Taken.{Taken}
 use Rattle.taken.specs.declared.Taken.the-variants as answer
@@ -30,6 +29,7 @@ pub record Took (row : Row) (b : List ℕ) (at len a x next : ℕ) : Type 0 wher
   pub low : at ≤ next
   pub high : next ≤ length b
 
+-- each case of the answer; a table in which `None` comes up is refused with 22
 unfoldable pub takesAt : Row → List ℕ → ℕ → Taken → Type 0
 takesAt row b at (answer.Some len a x next) = Took row b at len a x next
 takesAt row b at answer.None = getFields row (drop at b) ≡ none
@@ -49,18 +49,20 @@ getTextLength form = sized (getText form)
 -- ── The numbers: one number, and what it holds
 unfoldable pub getNumber : Numbers → Reader ℕ
 getNumber (Digits n base) = getLe n
-getNumber (Swapped n) = getLe n
+getNumber MethodFlags = getLe 1
+getNumber LevelOrder = getLe 3
 getNumber FieldFlags = getLe 1
 getNumber IntegerX = getInteger
 getNumber LengthX = getPkgLength false
 
+-- a and x, each held to its limit
+abbrev pub upTo : ℕ → ℕ → ℕ → ℕ → Parts
+upTo alimit xlimit a x = record { fit = leb a alimit && leb x xlimit; a = a; x = x }
+
 unfoldable pub partsOf : Numbers → ℕ → ℕ → ℕ → Parts
-partsOf (Digits n base) alimit xlimit w = record {
-  fit = leb base w && leb ((w - base) / (alimit + 1)) xlimit;
-  a = (w - base) % (alimit + 1);
-  x = (w - base) / (alimit + 1);
-}
-partsOf (Swapped n) alimit xlimit w = record { fit = leb (w / (xlimit + 1)) alimit; a = w / (xlimit + 1); x = w % (xlimit + 1) }
+partsOf (Digits n base) alimit xlimit w = record { fit = leb base w && leb (w - base) alimit; a = w - base; x = 0 }
+partsOf MethodFlags alimit xlimit w = upTo alimit xlimit (w % 8) (w / 8)
+partsOf LevelOrder alimit xlimit w = upTo alimit xlimit (w / 256) (w % 256)
 partsOf FieldFlags alimit xlimit w = record { fit = leb w alimit && flagsFit w; a = w; x = 0 }
 partsOf IntegerX alimit xlimit w = record { fit = leb w xlimit; a = 0; x = w }
 partsOf LengthX alimit xlimit w = record { fit = leb w xlimit; a = 0; x = w }
@@ -68,7 +70,8 @@ partsOf LengthX alimit xlimit w = record { fit = leb w xlimit; a = 0; x = w }
 -- the number has at most eight bytes
 unfoldable pub short : Numbers → Bool
 short (Digits n base) = leb n 8
-short (Swapped n) = leb n 8
+short MethodFlags = true
+short LevelOrder = true
 short FieldFlags = true
 short IntegerX = true
 short LengthX = true

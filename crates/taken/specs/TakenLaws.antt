@@ -17,12 +17,13 @@ use Rattle.octets.specs.declared.Num.the-variants as num
 use Rattle.path.specs.PathText.{segmentAt}
 use Rattle.path.specs.PathReading.{segment-read, segment-there}
 use Rattle.grammar.specs.declared.Numbers.{Numbers}
-use Rattle.grammar.specs.declared.Numbers.the-variants.{Digits, Swapped, FieldFlags, IntegerX, LengthX}
+use Rattle.grammar.specs.declared.Numbers.the-variants.{Digits, MethodFlags, LevelOrder, FieldFlags, IntegerX, LengthX}
 use Rattle.grammar.specs.declared.Text.the-variants.{Unused, AnyBytes}
 use Rattle.grammar.specs.declared.Row.{Row}
 use Rattle.grammar.specs.Kinds.{kinds, normalKinds, otherKinds, rowOf}
 use Rattle.grammar.specs.KindLaws.{everyRow, rule}
-use Rattle.fields.specs.Written.{getString, getSegment, getText, getForm, getFields}
+use Rattle.grammar.specs.Forest.{Fields}
+use Rattle.fields.specs.Get.{getString, getSegment, getText, getForm, getFields}
 use Rattle.taken.specs.declared.Parts.{Parts}
 use Rattle.taken.specs.declared.Taken.{Taken}
 use Rattle.taken.specs.declared.Taken.the-variants as answer
@@ -46,6 +47,29 @@ module _ {row : Row} {b : List ℕ} {at : ℕ} where
   unfolding takesAt
   takes-none h = record { says = h }
 
+  -- two answers are equal
+  took-same : {len a x next len′ a′ x′ next′ : ℕ} → Took row b at len a x next → Took row b at len′ a′ x′ next′ → answer.Some len a x next ≡ answer.Some len′ a′ x′ next′
+  took-same {next = next} {next′ = next′} h k =
+      let (v, w) = gave (sym (h .is) ∙ k .is) in
+      let t = ap (λ (f : Fields). length (f .text)) v in
+      let n = ap length w in
+      rw (
+        h .size ∙ t ∙ sym (k .size),
+        ap (λ (f : Fields). f .a) v,
+        ap (λ (f : Fields). f .x) v,
+        end-same next next′ (h .high) (k .high) (sym (length-drop next b) ∙ n ∙ length-drop next′ b),
+      ) refl
+    where
+      end-same : (m n : ℕ) → m ≤ length b → n ≤ length b → length b - m ≡ length b - n → m ≡ n
+      end-same m n l r e = omega arith
+
+  pub takes-determined : (r s : Taken) → Takes row b at r → Takes row b at s → r ≡ s
+  unfolding takesAt
+  takes-determined (answer.Some l a x n) (answer.Some m c y o) h k = took-same (h .says) (k .says)
+  takes-determined (answer.Some l a x n) answer.None h k = absurd (Option·none-ne-some _ (sym (k .says) ∙ h .says .is))
+  takes-determined answer.None (answer.Some m c y o) h k = absurd (Option·none-ne-some _ (sym (h .says) ∙ k .says .is))
+  takes-determined answer.None answer.None h k = refl
+
 -- ── The table
 short-all : T (everyRow (λ r. short (r .numbers)) kinds)
 unfolding everyRow kinds normalKinds otherKinds short
@@ -57,10 +81,6 @@ row-short k h = rule (λ r. short (r .numbers)) short-all k h
 pub digits-short : (n base : ℕ) → T (short (Digits n base)) → n ≤ 8
 unfolding short
 digits-short n base t = leb→le n 8 t
-
-pub swapped-short : (n : ℕ) → T (short (Swapped n)) → n ≤ 8
-unfolding short
-swapped-short n t = leb→le n 8 t
 
 -- ── A text of which the length is known
 abbrev lengthIn : Option (List ℕ × List ℕ) → Option (ℕ × List ℕ)
@@ -180,7 +200,8 @@ form-parts : (f : Numbers) (alimit xlimit : ℕ) (bs : List ℕ) → getForm f a
   need (partsOf f alimit xlimit w .fit) (some ((partsOf f alimit xlimit w .a, partsOf f alimit xlimit w .x), r)))
 unfolding getForm getNumber partsOf
 form-parts (Digits n base) alimit xlimit bs = refl
-form-parts (Swapped n) alimit xlimit bs = refl
+form-parts MethodFlags alimit xlimit bs = refl
+form-parts LevelOrder alimit xlimit bs = refl
 form-parts FieldFlags alimit xlimit bs = refl
 form-parts IntegerX alimit xlimit bs = refl
 form-parts LengthX alimit xlimit bs = refl

@@ -1,11 +1,11 @@
 // Reads a term's text and numbers by the columns of its kind: the text's length, a and x, and where they end.
 ghost use mathlib.Core.Path.{_≡_};
-ghost use Prim.Native.Nat.{_+_, _-_, _/_, _%_, _≤_};
+ghost use Prim.Native.Nat.{_-_, _≤_};
 ghost use lib.Dec.{T};
 ghost use lib.ListN.{length};
 ghost use Rattle.octets.specs.Reading.{Reads};
-ghost use Rattle.fields.specs.Written.{getString, getSegment};
-ghost use Rattle.taken.specs.Taken.{Takes, sized, getTextLength, getNumber, partsOf, short};
+ghost use Rattle.fields.specs.Get.{getString, getSegment};
+ghost use Rattle.taken.specs.Taken.{Takes, sized, getTextLength, getNumber, upTo, partsOf, short};
 use octets::Num;
 use octets::both;
 
@@ -92,30 +92,12 @@ fn number_at(numbers: grammar::Numbers, b: &[u8], at: usize) -> Num
 {
     match numbers {
         grammar::Numbers::Digits { width, base } => octets::le_at(b, at, width as usize),
-        grammar::Numbers::Swapped { width } => octets::le_at(b, at, width as usize),
+        grammar::Numbers::MethodFlags => octets::le_at(b, at, 1),
+        grammar::Numbers::LevelOrder => octets::le_at(b, at, 3),
         grammar::Numbers::FieldFlags => octets::le_at(b, at, 1),
         grammar::Numbers::IntegerX => number::int_at(b, at),
         grammar::Numbers::LengthX => number::pkg_length_at(b, at, false),
     }
-}
-
-// The one of two numbers that is at most `limit`, and the other. A number up to the limit is not divided: limit + 1 could wrap.
-fn low_of(w: u64, limit: u64) -> u64
-    ensures { λ r. ⌜ r ≡ w % (limit + 1) ⌝ }
-{
-    if w <= limit {
-        return w;
-    }
-    w % (limit + 1)
-}
-
-fn high_of(w: u64, limit: u64) -> u64
-    ensures { λ r. ⌜ r ≡ w / (limit + 1) ⌝ }
-{
-    if w <= limit {
-        return 0;
-    }
-    w / (limit + 1)
 }
 
 // How much w is above its base; 0 where it is below.
@@ -128,27 +110,31 @@ fn above(w: u64, base: u64) -> u64
     w - base
 }
 
+// a and x, and whether each is up to its limit.
+fn limited(a: u64, x: u64, alimit: u64, xlimit: u64) -> Parts
+    ensures { λ r. ⌜ r ≡ upTo alimit xlimit a x ⌝ }
+{
+    Parts {
+        fit: both(a <= alimit, x <= xlimit),
+        a,
+        x,
+    }
+}
+
 fn parts_of(numbers: grammar::Numbers, alimit: u64, xlimit: u64, w: u64) -> Parts
     ensures { λ r. ⌜ r ≡ partsOf numbers alimit xlimit w ⌝ }
 {
     match numbers {
         grammar::Numbers::Digits { width, base } => {
-            let m = above(w, base);
-            let x = high_of(m, alimit);
+            let a = above(w, base);
             Parts {
-                fit: both(base <= w, x <= xlimit),
-                a: low_of(m, alimit),
-                x,
-            }
-        }
-        grammar::Numbers::Swapped { width } => {
-            let a = high_of(w, xlimit);
-            Parts {
-                fit: a <= alimit,
+                fit: both(base <= w, a <= alimit),
                 a,
-                x: low_of(w, xlimit),
+                x: 0,
             }
         }
+        grammar::Numbers::MethodFlags => limited(w % 8, w / 8, alimit, xlimit),
+        grammar::Numbers::LevelOrder => limited(w / 256, w % 256, alimit, xlimit),
         grammar::Numbers::FieldFlags => Parts {
             fit: both(w <= alimit, fields::flags_fit(w)),
             a: w,

@@ -12,7 +12,8 @@ use lib.ListN.{length, length-append}
 use Rattle.octets.specs.Bytes.{Reader, _>>=_, need, cut, getLe}
 use Rattle.octets.specs.Tests.{and-left, and-right, took, gave, need-inv, need-true}
 use Rattle.octets.specs.Laws.{no-bytes, cut-back, cut-only, le-exact}
-use Rattle.number.specs.PkgLength.{largest, getPkgLength}
+use Rattle.number.specs.PkgLength.{largest}
+use Rattle.number.specs.Get.{getPkgLength}
 use Rattle.number.specs.PkgLengthLaws.{pkg-length-exact}
 use Rattle.grammar.specs.declared.Place.{Place}
 use Rattle.grammar.specs.declared.Rest.{Rest}
@@ -21,7 +22,8 @@ use Rattle.grammar.specs.declared.Row.{Row}
 use Rattle.grammar.specs.Kinds.{childPlace, counts, argsAt}
 use Rattle.grammar.specs.Forest.{Fields, Forest, nil, node, count}
 use Rattle.fields.specs.Fields.{inRange, spelled}
-use Rattle.fields.specs.Written.{fieldBytes, getFields}
+use Rattle.fields.specs.Written.{fieldBytes}
+use Rattle.fields.specs.Get.{getFields}
 use Rattle.tree.specs.Fits.{Args}
 use Rattle.tree.specs.Bytes.{front, back, before, behind, body, box, bytes}
 use Rattle.tree.specs.Read.{Body, Tree, onto, times, list, getMany, getKids, getBody, unbox}
@@ -302,4 +304,4 @@ module _
           let s : T (r .last || not (endsFields r)) = search (and-left, and-right) in
           let n : T (r .boxed || not (endsBody r (r .last))) = search (and-left, and-right) in
           box-exact (r .boxed) (endsBody r (r .last)) (bodyBytes r) (getBody args g p r (r .last)) (BodyGood args G p r) n
-          (reput (body-by r (r .last) o) (inner-exact (r .last) w o s))
+          (reput (λ b h. body-by r (r .last) o b) (inner-exact (r .last) w o s))

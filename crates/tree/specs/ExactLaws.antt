@@ -20,7 +20,8 @@ use Rattle.grammar.specs.Kinds.{stands, childPlace, opcode, normalKinds, find, 
 use Rattle.grammar.specs.Forest.{Fields, Forest, nil, node, count}
 use Rattle.tree.specs.Fits.{Args, fine, known, termFits, Fits}
 use Rattle.tree.specs.Bytes.{body, box, termBytes, bytes}
-use Rattle.tree.specs.Normal.{isNormal, bodyFits, normal, roomy}
+use Rattle.tree.specs.Normal.{bodyFits, roomy}
+use Rattle.tree.specs.IsNormal.{isNormal, normal}
 use Rattle.tree.specs.Read.{Tree, onto, kindAt, literal, list, getBody, unbox, read, parse}
 use Rattle.tree.specs.Good.{tree, treeBytes, Good}
 use Rattle.octets.specs.Matches.{Matches, regood}

@@ -5,14 +5,17 @@ use mathlib.Core.Option.{none, some, Option·elim}
 use mathlib.Core.List.{List, [], _∷_, map, flatten}
 use Prim.Native.Nat.{ℕ}
 use Rattle.octets.specs.Bytes.{_>>=_, need, every, cut, begins, le, value, getLe}
-use Rattle.number.specs.Integer.{integer, width, prefix, announced, getInteger}
-use Rattle.number.specs.PkgLength.{createPkgLength, following, lengthBytes, getPkgLength, getLength, shortest}
-use Rattle.path.specs.Path.{leadName, nameChar, segment, rootOf, unroot, joined, textOf, partsOf, pathOf, countBytes, bytesOf, pathBytes, getCount, getParts, getPath, getPathText, nameStart}
+use Rattle.number.specs.Integer.{integer, width, prefix}
+use Rattle.number.specs.Get.{announced, getInteger, getPkgLength, getLength, shortest}
+use Rattle.number.specs.PkgLength.{createPkgLength, following, lengthBytes}
+use Rattle.path.specs.Path.{leadName, nameChar, segment, rootOf, unroot, partsOf, pathOf, countBytes, bytesOf, pathBytes}
+use Rattle.path.specs.Get.{joined, textOf, getCount, getParts, getPath, getPathText, nameStart}
 use Rattle.grammar.specs.Kinds.{rank, is, stands, childPlace, counts, argsAt, opcode, normalKinds, kinds, find, rowOf, rowIn}
 use Rattle.grammar.specs.Family.{beginsInteger, beginsText, beginsNumbers, starts, familyName, familyIn, familyOf}
 use Rattle.grammar.specs.Forest.{Fields, Forest, nil, node, count}
 use Rattle.fields.specs.Fields.{flagsFit}
-use Rattle.fields.specs.Written.{textBytes, getString, getSegment, getText, formBytes, getForm, fieldBytes, getFields}
+use Rattle.fields.specs.Written.{textBytes, formBytes, fieldBytes}
+use Rattle.fields.specs.Get.{getString, getSegment, getText, getForm, getFields}
 use Rattle.tree.specs.Bytes.{front, back, before, behind, body, box, termBytes, bytes}
 use Rattle.tree.specs.Normal.{integerTerm, bufferTerm}
 use Rattle.tree.specs.Read.{twofold, kindIn, entryIn, kindAt, literal, times, list, getMany, getKids, getBody, unbox, read, parse}
@@ -48,7 +51,7 @@ examples =
     ∷ []
 
 pub examples-written : map (λ (e : Forest × List ℕ). bytes (e .0)) examples ≡ map (λ (e : Forest × List ℕ). e .1) examples
-unfolding bytes termBytes box body before behind front back opcode le rowIn rowOf find kinds normalKinds count fieldBytes textBytes formBytes pathBytes Option·elim pathOf partsOf unroot need _>>=_ segment leadName nameChar every bytesOf rootOf countBytes integer width prefix createPkgLength following lengthBytes flatten
+unfolding bytes termBytes box body before behind front back opcode le value rowIn rowOf find kinds normalKinds count fieldBytes textBytes formBytes pathBytes Option·elim pathOf partsOf unroot need _>>=_ segment leadName nameChar every bytesOf rootOf countBytes integer width prefix createPkgLength following lengthBytes flatten
 examples-written = refl
 
 pub examples-read : map (λ (e : Forest × List ℕ). parse (λ t. 2) (e .1)) examples ≡ map (λ (e : Forest × List ℕ). some (e .0)) examples

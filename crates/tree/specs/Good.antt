@@ -7,7 +7,8 @@ use Rattle.grammar.specs.Kinds.{rowOf, rowIn}
 use Rattle.grammar.specs.Forest.{Fields, Forest, nil, count}
 use Rattle.tree.specs.Fits.{Args, Fits}
 use Rattle.tree.specs.Bytes.{termBytes, bytes}
-use Rattle.tree.specs.Normal.{normal, roomy}
+use Rattle.tree.specs.Normal.{roomy}
+use Rattle.tree.specs.IsNormal.{normal}
 use Rattle.tree.specs.Read.{Tree, onto}
 
 abbrev pub tree : ℕ → Fields → Forest → Tree

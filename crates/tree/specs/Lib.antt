@@ -1,6 +1,7 @@
 pub mod Fits
 pub mod Bytes
 pub mod Normal
+pub mod IsNormal
 pub mod Read
 pub mod NormalLaws
 pub mod Good

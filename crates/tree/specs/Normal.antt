@@ -1,8 +1,7 @@
--- The normal form of a forest: an EISA id is an integer; a UUID and a resource template are buffers of their bytes. And which forests
--- are in normal form and can be written. Document 01, "Bytes" (Normal form) and "Refusal numbers" (13).
+-- The normal form of a forest: an EISA id is an integer; a UUID and a resource template are buffers of their bytes. And which
+-- forests have bodies in the range of their PkgLengths. Document 01, "Bytes" (Normal form) and "Refusal numbers" (13).
 -- Assumes nothing.
-use mathlib.Core.Bool.{Bool, true, false, _&&_, _||_, not, cond}
-use mathlib.Core.Option.{Option, none, some}
+use mathlib.Core.Bool.{Bool, true, _&&_, _||_, not, cond}
 use mathlib.Core.List.{List, [], _++_}
 use Prim.Native.Nat.{ℕ}
 use lib.Dec.{eqb, leb}
@@ -11,7 +10,7 @@ use Rattle.number.specs.PkgLength.{largest}
 use Rattle.ident.specs.Ident.{eisaId, uuidBytes}
 use Rattle.descriptor.specs.Template.{endTag}
 use Rattle.grammar.specs.declared.Row.{Row}
-use Rattle.grammar.specs.Kinds.{normalKinds, find, rowOf, rowIn}
+use Rattle.grammar.specs.Kinds.{rowOf, rowIn}
 use Rattle.grammar.specs.Forest.{Fields, Forest, nil, node, count}
 use Rattle.tree.specs.Bytes.{bytes, body}
 
@@ -33,20 +32,9 @@ norm (node k v c s) =
     (cond (eqb k 0xE003) (bufferTerm (bytes c ++ endTag) (norm s))
     (node k v (norm c) (norm s))))
 
--- ── Normal, and with each body in the range of its PkgLength
-unfoldable pub isNormal : ℕ → Bool
-isNormal k = present (find k normalKinds)
-  where
-    present : Option Row → Bool
-    present none = false
-    present (some r) = true
-
+-- ── Each body in the range of its PkgLength
 unfoldable pub bodyFits : Row → Fields → Forest → Bool
 bodyFits r v c = not (r .boxed) || leb (length (body r v (count c) (bytes c))) (largest true)
-
-unfoldable pub normal : Forest → Bool
-normal nil = true
-normal (node k v c s) = isNormal k && normal c && normal s
 
 -- 13: a body over 268,435,451 bytes
 unfoldable pub roomy : Forest → Bool

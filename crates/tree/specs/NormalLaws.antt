@@ -10,14 +10,14 @@ use native.Mathlib.Omega.{arith}
 use borrow.Author.Tests.{le-leb}
 use lib.Dec.{T, T-not, eqb, ltb, leb, leb·suc-zero, eqb→eq, leb→le, le→leb}
 use lib.ListN.{length, length-append}
-use Rattle.octets.specs.Bytes.{le}
+use Rattle.octets.specs.Bytes.{le, value}
 use Rattle.octets.specs.Tests.{and-left, and-right, and-both, or-case, or-left, test-true, cond-false, cond-case, not-equal, positive}
 use Rattle.number.specs.Integer.{integer}
 use Rattle.number.specs.PkgLength.{largest}
 use Rattle.number.specs.Buffer.{boxed, buffer}
 use Rattle.number.specs.IntegerLaws.{integer-most}
 use Rattle.number.specs.PkgLengthLaws.{largest-most}
-use Rattle.ident.specs.Ident.{eisaId, eisaName, uuidBytes, uuid}
+use Rattle.ident.specs.Ident.{eisaId, uuidBytes, uuid}
 use Rattle.ident.specs.IdentLaws.{eisa-small, uuid-length}
 use Rattle.descriptor.specs.Template.{endTag}
 use Rattle.grammar.specs.declared.Place.{Place}
@@ -38,7 +38,8 @@ use Rattle.fields.specs.Fields.{inRange, numbersFit, formFits, textFits, spelle
 use Rattle.fields.specs.Written.{fieldBytes, textBytes, formBytes}
 use Rattle.tree.specs.Bytes.{front, back, before, behind, body, box, termBytes, bytes}
 use Rattle.tree.specs.Fits.{Args, fine, known, termFits, Fits}
-use Rattle.tree.specs.Normal.{numbers, integerTerm, bufferTerm, norm, isNormal, bodyFits, normal, roomy}
+use Rattle.tree.specs.Normal.{numbers, integerTerm, bufferTerm, norm, bodyFits, roomy}
+use Rattle.tree.specs.IsNormal.{isNormal, normal}
 
 abbrev texts : List ℕ → Fields
 texts t = record { text = t; a = 0; x = 0 }
@@ -151,9 +152,9 @@ unfolding rowOf find kinds normalKinds otherKinds
 row-template = refl
 
 -- ── Bytes: of a term that is text and numbers alone, and of a term with a buffer's opcode
-plain-bytes : (k : ℕ) (text : Text) (n : Numbers) (a x : ℕ) (ps : Places) (v : Fields) → termBytes (plain k text n a x ps) v 0 [] ≡ textBytes text k v ++ formBytes n a x (v .a) (v .x)
+plain-bytes : (k : ℕ) (text : Text) (n : Numbers) (a x : ℕ) (ps : Places) (v : Fields) → termBytes (plain k text n a x ps) v 0 [] ≡ textBytes text k v ++ formBytes n (v .a) (v .x)
 unfolding termBytes opcode le box body before behind fieldBytes
-plain-bytes k text n a x ps v = append-nil (textBytes text k v ++ formBytes n a x (v .a) (v .x))
+plain-bytes k text n a x ps v = append-nil (textBytes text k v ++ formBytes n (v .a) (v .x))
 
 container-body : (k n : ℕ) (rest : Rest) (p : Place) (text : Text) (v : Fields) (m : ℕ) (bs : List ℕ)
     → body (container k 0x11 n rest p text) v m bs ≡ front rest m bs ++ (bs ++ (textBytes text k v ++ back rest))
@@ -162,7 +163,7 @@ container-body k n rest p text v m bs = ap (λ t. front rest m bs ++ (bs ++ (t +
 
 container-bytes : {o : Option Row} {k n : ℕ} {rest : Rest} {p : Place} {text : Text} (v : Fields) (m : ℕ) (bs : List ℕ) → o ≡ some (container k 0x11 n rest p text)
     → termBytes (rowIn o) v m bs ≡ boxed 0x11 (body (rowIn o) v m bs)
-unfolding rowIn termBytes opcode le box boxed
+unfolding rowIn termBytes opcode le value box boxed
 container-bytes v m bs e = rw e refl
 
 integer-bytes : (x : ℕ) (s : Forest) → bytes (integerTerm x s) ≡ integer x ++ bytes s
@@ -181,7 +182,7 @@ buffer-bytes t s =
     ap (λ u. u ++ bytes s) (container-bytes (texts t) 1 (bytes (integerTerm (length t) nil)) row-buffer ∙ ap (boxed 0x11) (buffer-body t))
 
 eisa-bytes : (v : Fields) → termBytes (rowIn (rowOf 0xE001)) v 0 [] ≡ integer (eisaId (v .text))
-unfolding rowIn textBytes formBytes le eisaName
+unfolding rowIn textBytes formBytes le
 eisa-bytes v = rw row-eisa (plain-bytes 0xE001 EisaText noNumbers 0 0 Data v) ∙ append-nil (integer (eisaId (v .text)))
 
 uuid-bytes : (v : Fields) → termBytes (rowIn (rowOf 0xE002)) v 0 [] ≡ buffer (uuidBytes (v .text))

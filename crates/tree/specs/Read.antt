@@ -8,7 +8,7 @@ use Prim.Native.Nat.{ℕ, zero, suc, _+_, _*_}
 use lib.Dec.{eqb}
 use lib.ListN.{length, drop, getD}
 use Rattle.octets.specs.Bytes.{Reader, _>>=_, need, cut, begins, getLe}
-use Rattle.number.specs.PkgLength.{getPkgLength}
+use Rattle.number.specs.Get.{getPkgLength}
 use Rattle.grammar.specs.declared.Place.{Place}
 use Rattle.grammar.specs.declared.Place.the-variants.{InList, FieldEntry}
 use Rattle.grammar.specs.declared.Rest.{Rest}
@@ -17,7 +17,7 @@ use Rattle.grammar.specs.declared.Row.{Row}
 use Rattle.grammar.specs.Kinds.{is, stands, childPlace, counts, argsAt, opcode, normalKinds, find}
 use Rattle.grammar.specs.Family.{familyOf}
 use Rattle.grammar.specs.Forest.{Fields, Forest, nil, node, count}
-use Rattle.fields.specs.Written.{getFields}
+use Rattle.fields.specs.Get.{getFields}
 use Rattle.tree.specs.Fits.{Args}
 
 -- ── A term, and a term's fields and children

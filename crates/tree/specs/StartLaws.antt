@@ -3,19 +3,20 @@
 use mathlib.Core.Path.{_≡_, refl, ap}
 use mathlib.Core.Bool.{Bool, true, false, _&&_}
 use mathlib.Core.List.{List, [], _∷_, _++_}
-use Prim.Native.Nat.{ℕ, zero, suc, _+_, _*_, _%_, _≤_, _<_}
+use Prim.Native.Nat.{ℕ, zero, suc, _+_, _%_, _≤_, _<_}
 use native.Mathlib.Omega.{arith}
 use lib.Dec.{T, eqb, leb, eqb→eq, leb→le, le→leb, ltb→lt}
 use Rattle.octets.specs.Bytes.{every, isByte, le}
 use Rattle.octets.specs.Tests.{and-left, and-right, and-both, or-case}
 use Rattle.number.specs.Integer.{integer, prefix}
 use Rattle.number.specs.IntegerLaws.{by-form, by-width}
-use Rattle.path.specs.Path.{leadName, segment, pathBytes, isPath, nameStart}
+use Rattle.path.specs.Path.{leadName, segment, pathBytes, isPath}
+use Rattle.path.specs.Get.{nameStart}
 use Rattle.path.specs.PathLaws.{path-head, path-bytes-are}
 use Rattle.grammar.specs.declared.Text.{Text}
 use Rattle.grammar.specs.declared.Text.the-variants.{Unused, PathText, SegmentText, Ascii, AnyBytes, EisaText, UuidText, DescriptorText}
 use Rattle.grammar.specs.declared.Numbers.{Numbers}
-use Rattle.grammar.specs.declared.Numbers.the-variants.{Digits, Swapped, FieldFlags, IntegerX, LengthX}
+use Rattle.grammar.specs.declared.Numbers.the-variants.{Digits, MethodFlags, LevelOrder, FieldFlags, IntegerX, LengthX}
 use Rattle.grammar.specs.declared.Row.{Row}
 use Rattle.grammar.specs.Family.{beginsInteger, beginsNumbers}
 use Rattle.grammar.specs.Forest.{Fields}
@@ -27,12 +28,13 @@ abbrev pub Start : (ℕ → Bool) → List ℕ → Type 0
 Start f x = (b : ℕ) × (bs : List ℕ) × (x ≡ b ∷ bs) × T (f b) × (b < 256)
 
 -- ── Numbers: an integer, or one byte that holds a alone
-unfoldable pub opensForm : Numbers → ℕ → ℕ → Bool
-opensForm (Digits n base) alimit xlimit = eqb n 1 && leb (base + alimit) 255 && eqb xlimit 0
-opensForm (Swapped n) alimit xlimit = false
-opensForm FieldFlags alimit xlimit = false
-opensForm IntegerX alimit xlimit = true
-opensForm LengthX alimit xlimit = false
+unfoldable pub opensForm : Numbers → ℕ → Bool
+opensForm (Digits n base) alimit = eqb n 1 && leb (base + alimit) 255
+opensForm MethodFlags alimit = false
+opensForm LevelOrder alimit = false
+opensForm FieldFlags alimit = false
+opensForm IntegerX alimit = true
+opensForm LengthX alimit = false
 
 short-start : (x : ℕ) → x < 2 → T (beginsInteger x)
 unfolding beginsInteger
@@ -47,35 +49,32 @@ integer-start x =
     (λ h. (x, [], refl, short-start x h, omega arith))
     λ h. by-width (λ w. Start beginsInteger (prefix w ∷ le w x)) x (λ l. (0x0A, _, refl, tt, omega arith)) (λ l. (0x0B, _, refl, tt, omega arith)) (λ l. (0x0C, _, refl, tt, omega arith)) (0x0E, _, refl, tt, omega arith)
 
-digits-start : (n base alimit a : ℕ) → n ≡ 1 → base + alimit ≤ 255 → a ≤ alimit → Start (beginsNumbers (Digits n base) alimit) (le n (base + (a + (alimit + 1) * 0)))
+digits-start : (n base alimit a : ℕ) → n ≡ 1 → base + alimit ≤ 255 → a ≤ alimit → Start (beginsNumbers (Digits n base) alimit) (le n (base + a))
 unfolding beginsNumbers le
 digits-start n base alimit a e l h =
-    let q : (base + (a + (alimit + 1) * 0)) % 256 ≡ base + a = omega arith in
+    let q : (base + a) % 256 ≡ base + a = omega arith in
     rw (e, q) (base + a, [], refl, and-both (leb base (base + a)) _ (le→leb base (base + a) (omega arith)) (le→leb (base + a) (base + alimit) (omega arith)), omega arith)
 
-form-start : (f : Numbers) (alimit xlimit a x : ℕ) → T (opensForm f alimit xlimit) → a ≤ alimit → x ≤ xlimit → Start (beginsNumbers f alimit) (formBytes f alimit xlimit a x)
+form-start : (f : Numbers) (alimit a x : ℕ) → T (opensForm f alimit) → a ≤ alimit → Start (beginsNumbers f alimit) (formBytes f a x)
 unfolding opensForm formBytes beginsNumbers
-form-start (Digits n base) alimit xlimit a x o h k =
-    let e : n ≡ 1 = eqb→eq n 1 (search (and-left, and-right)) in
-    let l : base + alimit ≤ 255 = leb→le (base + alimit) 255 (search (and-left, and-right)) in
-    let m : xlimit ≡ 0 = eqb→eq xlimit 0 (search (and-left, and-right)) in
-    let z : x ≡ 0 = omega arith in
-    rw z (digits-start n base alimit a e l h)
-form-start (Swapped n) alimit xlimit a x o h k = absurd o
-form-start FieldFlags alimit xlimit a x o h k = absurd o
-form-start IntegerX alimit xlimit a x o h k = integer-start x
-form-start LengthX alimit xlimit a x o h k = absurd o
+form-start (Digits n base) alimit a x o h =
+    digits-start n base alimit a (eqb→eq n 1 (and-left (eqb n 1) _ o)) (leb→le (base + alimit) 255 (and-right (eqb n 1) _ o)) h
+form-start MethodFlags alimit a x o h = absurd o
+form-start LevelOrder alimit a x o h = absurd o
+form-start FieldFlags alimit a x o h = absurd o
+form-start IntegerX alimit a x o h = integer-start x
+form-start LengthX alimit a x o h = absurd o
 
 -- ── Text: a path, a segment, or none and then the numbers
-unfoldable pub opensText : Text → Numbers → ℕ → ℕ → Bool
-opensText Unused f alimit xlimit = opensForm f alimit xlimit
-opensText PathText f alimit xlimit = true
-opensText SegmentText f alimit xlimit = true
-opensText Ascii f alimit xlimit = false
-opensText AnyBytes f alimit xlimit = false
-opensText EisaText f alimit xlimit = false
-opensText UuidText f alimit xlimit = false
-opensText DescriptorText f alimit xlimit = false
+unfoldable pub opensText : Text → Numbers → ℕ → Bool
+opensText Unused f alimit = opensForm f alimit
+opensText PathText f alimit = true
+opensText SegmentText f alimit = true
+opensText Ascii f alimit = false
+opensText AnyBytes f alimit = false
+opensText EisaText f alimit = false
+opensText UuidText f alimit = false
+opensText DescriptorText f alimit = false
 
 unfoldable pub firstOf : Text → Numbers → ℕ → ℕ → Bool
 firstOf Unused f alimit b = beginsNumbers f alimit b
@@ -104,21 +103,21 @@ unfolding segment
 segment-start [] x t = absurd t
 segment-start (b ∷ s) x t = let l : T (leadName b) = search (and-left, and-right) in (b, s ++ x, refl, l, lead-small b l)
 
-text-start : (y : Text) (f : Numbers) (alimit xlimit kind : ℕ) (v : Fields) → T (opensText y f alimit xlimit) → v .a ≤ alimit → v .x ≤ xlimit → T (textSpelled y kind (v .text))
-    → Start (firstOf y f alimit) (textBytes y kind v ++ formBytes f alimit xlimit (v .a) (v .x))
+text-start : (y : Text) (f : Numbers) (alimit kind : ℕ) (v : Fields) → T (opensText y f alimit) → v .a ≤ alimit → T (textSpelled y kind (v .text))
+    → Start (firstOf y f alimit) (textBytes y kind v ++ formBytes f (v .a) (v .x))
 unfolding opensText firstOf textSpelled textBytes
-text-start Unused f alimit xlimit kind v o h k t = form-start f alimit xlimit (v .a) (v .x) o h k
-text-start PathText f alimit xlimit kind v o h k t = path-start (v .text) _ t
-text-start SegmentText f alimit xlimit kind v o h k t = segment-start (v .text) _ t
-text-start Ascii f alimit xlimit kind v o h k t = absurd o
-text-start AnyBytes f alimit xlimit kind v o h k t = absurd o
-text-start EisaText f alimit xlimit kind v o h k t = absurd o
-text-start UuidText f alimit xlimit kind v o h k t = absurd o
-text-start DescriptorText f alimit xlimit kind v o h k t = absurd o
+text-start Unused f alimit kind v o h t = form-start f alimit (v .a) (v .x) o h
+text-start PathText f alimit kind v o h t = path-start (v .text) _ t
+text-start SegmentText f alimit kind v o h t = segment-start (v .text) _ t
+text-start Ascii f alimit kind v o h t = absurd o
+text-start AnyBytes f alimit kind v o h t = absurd o
+text-start EisaText f alimit kind v o h t = absurd o
+text-start UuidText f alimit kind v o h t = absurd o
+text-start DescriptorText f alimit kind v o h t = absurd o
 
 -- ── The fields of a row
 unfoldable pub opens : Row → Bool
-opens r = opensText (r .text) (r .numbers) (r .alimit) (r .xlimit)
+opens r = opensText (r .text) (r .numbers) (r .alimit)
 
 unfoldable pub first : Row → ℕ → Bool
 first r b = firstOf (r .text) (r .numbers) (r .alimit) b
@@ -127,5 +126,4 @@ pub fields-start : (r : Row) (v : Fields) → T (opens r) → T (inRange r (v .t
 unfolding opens first fieldBytes inRange numbersFit spelled
 fields-start r v o i s =
     let h : v .a ≤ r .alimit = leb→le (v .a) (r .alimit) (search (and-left, and-right)) in
-    let k : v .x ≤ r .xlimit = leb→le (v .x) (r .xlimit) (search (and-left, and-right)) in
-    text-start (r .text) (r .numbers) (r .alimit) (r .xlimit) (r .kind) v o h k s
+    text-start (r .text) (r .numbers) (r .alimit) (r .kind) v o h s

@@ -10,9 +10,10 @@ use native.Mathlib.Nat.{not-suc-le-zero}
 use native.Mathlib.Decide.{ℕ-discrete}
 use lib.Dec.{T, T-not, eqb, eqb→eq}
 use lib.ListN.{length}
-use Rattle.octets.specs.Bytes.{le}
+use Rattle.octets.specs.Bytes.{le, value}
 use Rattle.octets.specs.Tests.{and-left, and-right, or-case, cond-true, cond-false, cond-inv, cond-case}
-use Rattle.path.specs.Path.{leadName, nameStart}
+use Rattle.path.specs.Path.{leadName}
+use Rattle.path.specs.Get.{nameStart}
 use Rattle.grammar.specs.declared.Place.{Place}
 use Rattle.grammar.specs.declared.Place.the-variants.{InList, Operand, Datum, Element, FieldEntry, Descriptor}
 use Rattle.grammar.specs.declared.Row.{Row}
@@ -20,7 +21,7 @@ use Rattle.grammar.specs.Kinds.{rank, is, stands, opcode, normalKinds, otherKin
 use Rattle.grammar.specs.Family.{beginsInteger, beginsText, beginsNumbers, starts, familyName, familyIn, familyOf}
 use Rattle.fields.specs.Written.{fieldBytes}
 use Rattle.tree.specs.Bytes.{before, body, box}
-use Rattle.tree.specs.Normal.{isNormal}
+use Rattle.tree.specs.IsNormal.{isNormal}
 use Rattle.tree.specs.Read.{Body, twofold, kindIn, entryIn, kindAt}
 use Rattle.grammar.specs.KindLaws.{everyRow, found-kind, found-rule}
 use Rattle.fields.specs.WrittenLaws.{endsText, endsFields, readableText, readableForm, noBytes, readable}
@@ -119,7 +120,7 @@ each-place f t FieldEntry = search (and-left, and-right)
 each-place f t Descriptor = search (and-left, and-right)
 
 leads-all : T (everyRow (λ r. eachPlace (leadsIn r)) normalKinds)
-unfolding everyRow normalKinds eachPlace leadsIn stands is rank leads bare opens opensText opensForm upto first firstOf leadName beginsText beginsNumbers beginsInteger nameStart tells kindAt kindIn entryIn twofold familyOf familyIn familyName starts opcode le
+unfolding everyRow normalKinds eachPlace leadsIn stands is rank leads bare opens opensText opensForm upto first firstOf leadName beginsText beginsNumbers beginsInteger nameStart tells kindAt kindIn entryIn twofold familyOf familyIn familyName starts opcode le value
 leads-all = tt
 
 leads-row : (k : ℕ) {r : Row} (p : Place) → find k normalKinds ≡ some r → T (stands (r .places) p) → T (leads p r)

@@ -4,25 +4,25 @@ use mathlib.Core.Path.{_≡_, refl, sym, _∙_, ap}
 use mathlib.Core.Bool.{Bool, true, false, _&&_, _||_, not, cond, true≢false}
 use mathlib.Core.Option.{some}
 use mathlib.Core.List.{List}
-use Prim.Native.Nat.{ℕ, _+_, _-_, _/_, _%_}
+use Prim.Native.Nat.{ℕ, _-_}
 use lib.Dec.{T, leb, eqb→eq}
 use lib.ListN.{length, drop}
 use borrow.Author.Tests.{not-true, not-false}
 use Rattle.octets.specs.Bytes.{Reader, _>>=_, need, every, cut, value, getLe}
 use Rattle.octets.specs.Reading.{Got}
 use Rattle.octets.specs.Tests.{and-left, and-right, took, gave, need-inv}
-use Rattle.path.specs.Path.{getPathText, getPathLength, pathText}
+use Rattle.path.specs.Get.{getPathText, getPathLength, pathText}
 use Rattle.grammar.specs.declared.Place.{Place}
 use Rattle.grammar.specs.declared.Text.{Text}
 use Rattle.grammar.specs.declared.Text.the-variants.{Unused, PathText, SegmentText, Ascii, AnyBytes, EisaText, UuidText, DescriptorText}
 use Rattle.grammar.specs.declared.Numbers.{Numbers}
-use Rattle.grammar.specs.declared.Numbers.the-variants.{Digits, Swapped, FieldFlags, IntegerX, LengthX}
+use Rattle.grammar.specs.declared.Numbers.the-variants.{Digits, MethodFlags, LevelOrder, FieldFlags, IntegerX, LengthX}
 use Rattle.grammar.specs.declared.Rest.{Rest}
 use Rattle.grammar.specs.declared.Rest.the-variants.{Nothing, Arity, Listed, Counted, Measured}
 use Rattle.grammar.specs.declared.Row.{Row}
 use Rattle.grammar.specs.Kinds.{counts, argsAt, normalKinds, find}
 use Rattle.grammar.specs.KindLaws.{everyRow, found-rule}
-use Rattle.fields.specs.Written.{getText, getForm, getFields}
+use Rattle.fields.specs.Get.{getText, getForm, getFields}
 use Rattle.fields.specs.WrittenLaws.{noBytes}
 use Rattle.grammar.specs.Forest.{Forest, count}
 use Rattle.arity.specs.Arity.{argsOf}
@@ -97,11 +97,12 @@ form-same : (f : Numbers) (alimit xlimit : ℕ) (bs : List ℕ) (v : ℕ × ℕ)
 unfolding noBytes getForm getLe cut every value _>>=_ need
 form-same (Digits n base) alimit xlimit bs v r t h =
     let z : n ≡ 0 = eqb→eq n 0 t in
-    let c = leb base 0 && leb ((0 - base) / (alimit + 1)) xlimit in
-    let y : (ℕ × ℕ) × List ℕ = (((0 - base) % (alimit + 1), (0 - base) / (alimit + 1)), bs) in
+    let c = leb base 0 && leb (0 - base) alimit in
+    let y : (ℕ × ℕ) × List ℕ = ((0 - base, 0), bs) in
     let k : need c (some y) ≡ some (v, r) = rw z at h in
     gave (need-inv c (some y) (v, r) k .1) .1
-form-same (Swapped n) alimit xlimit bs v r t h = absurd t
+form-same MethodFlags alimit xlimit bs v r t h = absurd t
+form-same LevelOrder alimit xlimit bs v r t h = absurd t
 form-same FieldFlags alimit xlimit bs v r t h = absurd t
 form-same IntegerX alimit xlimit bs v r t h = absurd t
 form-same LengthX alimit xlimit bs v r t h = absurd t

@@ -13,18 +13,18 @@ use lib.Seq.{length-take-le}
 use borrow.Author.Tests.{le-ltb, not-true, not-false}
 use Rattle.octets.specs.Bytes.{Reader, _>>=_}
 use Rattle.octets.specs.Reading.{Got}
-use Rattle.path.specs.Path.{pathText}
+use Rattle.path.specs.Get.{pathText}
 use Rattle.grammar.specs.declared.Place.{Place}
 use Rattle.grammar.specs.declared.Place.the-variants.{InList}
 use Rattle.grammar.specs.declared.Row.{Row}
 use Rattle.grammar.specs.Kinds.{childPlace, counts, argsAt, normalKinds, kinds, noRow, find}
 use Rattle.grammar.specs.KindLaws.{found-kind}
 use Rattle.grammar.specs.Forest.{Fields, Forest}
-use Rattle.fields.specs.Written.{getFields}
+use Rattle.fields.specs.Get.{getFields}
 use Rattle.tree.specs.Fits.{Args}
 use Rattle.tree.specs.Read.{Body, Tree, onto, list, getKids, getBody, unbox, read, kindAt}
-use Rattle.start.specs.Start.{Begins, Starts}
-use Rattle.start.specs.StartLaws.{begins-opcode}
+use Rattle.start.specs.Start.{normalCount, startAt, Begins}
+use Rattle.start.specs.StartLaws.{start-none, begins-opcode}
 use Rattle.start.specs.Box.{Opened}
 use Rattle.taken.specs.Taken.{Took}
 use Rattle.arity.specs.Arity.{argsOf}
@@ -68,8 +68,8 @@ module _ (args : Args) (p : Place) (b : List ℕ) (at : ℕ) (l : ℕ) (h : at �
   term-zero e o = with-spans (rw e (record { good = λ y. absurd (true≢false (sym y ∙ o)); bad = λ _. refl; same = refl }))
 
   module _ (nz : l ≡ 0 → ⊥) where
-    pub term-nowhere : {j : ℕ} → Starts p (drop at b) j → 57 ≤ j → {i : ℕ} {first : List ℕ} {w : Walk} → w .ok ≡ false → Walks tree (read args l p (drop at b)) b at i first first w × Spans at w
-    term-nowhere s n o = with-spans (record { good = λ y. absurd (true≢false (sym y ∙ o)); bad = λ _. rw (above-zero l nz) (s .nowhere n args (l - 1)); same = refl })
+    pub term-nowhere : {j : ℕ} → j ≡ startAt p (drop at b) → normalCount ≤ j → {i : ℕ} {first : List ℕ} {w : Walk} → w .ok ≡ false → Walks tree (read args l p (drop at b)) b at i first first w × Spans at w
+    term-nowhere s n o = with-spans (record { good = λ y. absurd (true≢false (sym y ∙ o)); bad = λ _. rw (above-zero l nz) (start-none p (drop at b) s n args (l - 1)); same = refl })
 
     module _ {r : Row} (s : Begins p (drop at b) r) where
       pub term-none : ((get : Reader Body) → unbox (r .boxed) get (drop (at + r .ops) b) ≡ none) → {i : ℕ} {first : List ℕ} {w : Walk} → w .ok ≡ false

@@ -15,8 +15,8 @@ use Rattle.octets.specs.Bytes.{Reader, _>>=_, need}
 use Rattle.octets.specs.Tests.{and-left, and-right, true-test}
 use Rattle.octets.specs.Reading.{past-end, next-byte}
 use Rattle.grammar.specs.declared.Place.{Place}
-use Rattle.grammar.specs.Forest.{Forest, nil, node, count, join, flatten}
-use Rattle.grammar.specs.ForestLaws.{join-nil, flatten-join}
+use Rattle.grammar.specs.Forest.{Forest, nil, node, count, flatten}
+use Rattle.grammar.specs.ForestLaws.{join, join-nil, flatten-join}
 use Rattle.tree.specs.Read.{Tree, onto, times, list}
 use Rattle.normal.specs.File.{termTexts}
 use Rattle.normal.specs.SectionLaws.{texts-append}

@@ -14,7 +14,7 @@ use Rattle.grammar.specs.Kinds.{rowOf, rowIn}
 use Rattle.grammar.specs.Forest.{Term}
 use Rattle.fields.specs.Fields.{inRange, spelled}
 use Rattle.fields.specs.Written.{textBytes}
-use Rattle.tree.specs.Normal.{isNormal}
+use Rattle.tree.specs.IsNormal.{isNormal}
 use Rattle.normal.specs.File.{recordBytes}
 use Rattle.normal.specs.SectionLaws.{record-length}
 use Rattle.normal.specs.Stands.{Stands}

@@ -20,7 +20,8 @@ use Rattle.grammar.specs.declared.Row.{Row}
 use Rattle.grammar.specs.Kinds.{childPlace, counts, argsAt, normalKinds, find, rowOf, rowIn}
 use Rattle.grammar.specs.Forest.{Fields, Forest, count, Term, flatten}
 use Rattle.fields.specs.Fields.{inRange, spelled}
-use Rattle.fields.specs.Written.{textBytes, formBytes, fieldBytes, getFields}
+use Rattle.fields.specs.Written.{textBytes, formBytes, fieldBytes}
+use Rattle.fields.specs.Get.{getFields}
 use Rattle.fields.specs.WrittenLaws.{fields-exact, normal-readable}
 use Rattle.tree.specs.Fits.{Args}
 use Rattle.tree.specs.Read.{Body, Tree, getMany, getKids, getBody, unbox, read}
@@ -102,7 +103,7 @@ module _ {r : Row} (found : find (r .kind) normalKinds ≡ some r) where
         normal = found-normal (r .kind) found;
         ranged = rw (normal-row (r .kind) found) (g .0);
         spelled = rw (normal-row (r .kind) found) (g .1);
-        there = record { rest = formBytes (r .numbers) (r .alimit) (r .xlimit) (v .a) (v .x) ++ drop next b; is = rw (normal-row (r .kind) found) (q ∙ append-assoc (textBytes (r .text) (r .kind) v) _ _); within = l };
+        there = record { rest = formBytes (r .numbers) (v .a) (v .x) ++ drop next b; is = rw (normal-row (r .kind) found) (q ∙ append-assoc (textBytes (r .text) (r .kind) v) _ _); within = l };
       }
 
   pub fields-short : (b : List ℕ) (at next : ℕ) (v : Fields) → getFields r (drop at b) ≡ some (v, drop next b) → length (v .text) ≤ 2 * length b
@@ -110,7 +111,7 @@ module _ {r : Row} (found : find (r .kind) normalKinds ≡ some r) where
   fields-short b at next v e =
       let (g, q) = fields-are b at next v e in
       let m = text-most r v (g .0) (g .1) (normal-readable (r .kind) found) in
-      let n : length (drop at b) ≡ length (textBytes (r .text) (r .kind) v) + length (formBytes (r .numbers) (r .alimit) (r .xlimit) (v .a) (v .x)) + length (drop next b) = ap length q ∙ simp length-append (omega arith) in
+      let n : length (drop at b) ≡ length (textBytes (r .text) (r .kind) v) + length (formBytes (r .numbers) (v .a) (v .x)) + length (drop next b) = ap length q ∙ simp length-append (omega arith) in
       omega (arith, length-drop at b)
 
 -- the record of a term is put before those of its children

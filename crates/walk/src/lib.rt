@@ -4,7 +4,7 @@ ghost use mathlib.Core.Bool.{true, false, cond};
 ghost use Prim.Native.Nat.{_+_, _*_, _≤_};
 ghost use lib.ListN.{length, drop};
 ghost use Rattle.octets.specs.Reading.{Reads, Got};
-ghost use Rattle.path.specs.Path.{getPathLength, pathText};
+ghost use Rattle.path.specs.Get.{getPathLength, pathText};
 ghost use Rattle.grammar.specs.Kinds.{childPlace, counts, argsAt};
 ghost use Rattle.arity.specs.Arity.{aritiesFit, argsOf};
 ghost use Rattle.grammar.specs.declared.Place.the-variants.{InList};

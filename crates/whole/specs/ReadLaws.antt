@@ -3,29 +3,29 @@
 -- Document 01, "How strong the statements are" (Demand 3) and "Refusal numbers" (Reading).
 -- Assumes nothing.
 use mathlib.Core.Path.{_≡_, refl, sym, ap, _∙_}
-use mathlib.Core.Bool.{Bool, true, false, _||_, not, cond}
 use mathlib.Core.Option.{Option, none, some, Option·none-ne-some, Option·some-injective}
 use mathlib.Core.List.{List}
+use mathlib.Core.Logic.{_⊎_, inl, inr}
 use Prim.Native.Nat.{ℕ, _+_, _≤_, _<_}
 use native.Mathlib.Omega.{arith}
-use lib.Dec.{T, eqb, leb, ltb, leb→le}
+use lib.Dec.{T, leb, ltb, leb→le}
 use lib.ListN.{length, drop, length-drop}
-use borrow.Author.Tests.{eq-eqb, eqb-true, le-leb, le-ltb, ltb-false, not-false}
+use borrow.Author.Tests.{eq-eqb, le-leb, le-ltb}
 use Rattle.octets.specs.Bytes.{every, isByte, leAt}
 use Rattle.octets.specs.Sum.{byteSum}
-use Rattle.octets.specs.Tests.{or-none, cond-case, cond-inv}
+use Rattle.octets.specs.Tests.{cond-case, cond-inv}
 use Rattle.grammar.specs.Forest.{Forest, flatten}
 use Rattle.tree.specs.Bytes.{bytes}
-use Rattle.tree.specs.Normal.{norm, normal, roomy}
+use Rattle.tree.specs.Normal.{norm, roomy}
+use Rattle.tree.specs.IsNormal.{normal}
 use Rattle.tree.specs.NormalLaws.{norm-fixed}
 use Rattle.tree.specs.Read.{parse}
 use Rattle.tree.specs.ExactLaws.{parse-back, parse-only, bytes-injective}
-use Rattle.term.specs.File.{recordCount, identity, layoutOf}
-use Rattle.arity.specs.Arity.{Arity, aritiesFit, argsIn}
-use Rattle.checker.specs.Refusal.{aritySection, poolSection}
+use Rattle.term.specs.File.{identity}
+use Rattle.arity.specs.Arity.{Arity, argsIn}
 use Rattle.normal.specs.File.{fileOf}
 use Rattle.encode.specs.Encode.{tableOf, Outcome, refusedBy, handed}
-use Rattle.whole.specs.Whole.{listOf, treeOf, tableFor, normalFor, Accepted, identityOf, treeIn, readIn, readOf}
+use Rattle.whole.specs.Whole.{listOf, treeOf, tableFor, normalFor, Accepted, identityOf, treeIn, readIn, readOf, Plain, Framed, Gives}
 use Rattle.whole.specs.ListLaws.{Listed, listed}
 use Rattle.whole.specs.TableLaws.{table-length, table-contents, table-identity, table-sum, table-field, identity-length, table-back}
 use Rattle.whole.specs.WholeLaws.{Sound, accepted-identity, accepted-sound, sound-file, holds-normal, normal-forest, normal-identity}
@@ -80,20 +80,6 @@ module _ (f h : List ℕ) (a : Accepted f) (b : Accepted h) where
   pub same-table : identity f ≡ identity h → listOf f ≡ listOf h → (tableFor f ≡ tableFor h → normalFor f ≡ normalFor h) × (normalFor f ≡ normalFor h → tableFor f ≡ tableFor h)
   same-table i l = (table-normal l, normal-same)
 
--- ── Demand 3, second sentence
--- an arity file that may be read by: neither 1, 2 nor 3 holds
-pub record Plain (a : List ℕ) : Type 0 where
-  pub layout : layoutOf a .number ≡ 0
-  pub none : recordCount a ≡ 0
-  pub fit : aritiesFit (aritySection a) (poolSection a) ≡ true
-
--- a table that may be read: neither 20, 12 nor 21 holds
-pub record Framed (t : List ℕ) : Type 0 where
-  pub least : 36 ≤ length t
-  pub own : leAt 4 t 4 ≡ length t
-  pub most : length t ≤ 268435455
-  pub sum : byteSum t ≡ 0
-
 pub plain-listed : (a : List ℕ) → Plain a → Listed (listOf a)
 unfolding listOf
 plain-listed a p = listed a (p .layout) (p .fit)
@@ -145,13 +131,6 @@ module _ (a f : List ℕ) (p : Plain a) (h : Accepted f) (l : listOf f ≡ listO
   unfolding tableFor normalFor readIn
   read-table out = read-framed a (tableFor f) out p table-framed ∙ rw (table-tree, table-id (identity f) (treeOf f) (accepted-identity f h), l) refl
 
--- what is read is an accepted file in normal form, with this arity list and this table
-pub record Origin (a t f : List ℕ) : Type 0 where
-  pub accepted : Accepted f
-  pub list : listOf f ≡ listOf a
-  pub table : tableFor f ≡ t
-  pub normal : normalFor f ≡ f
-
 module _ (a t : List ℕ) (g : Forest) (p : Plain a) (b : T (every isByte t)) (h : Framed t) (e : treeIn (listOf a) t ≡ some g) where
   read-sound : Sound (listOf a) g × (drop 36 t ≡ bytes g)
   read-sound =
@@ -159,54 +138,37 @@ module _ (a t : List ℕ) (g : Forest) (p : Plain a) (b : T (every isByte t)) (h
       let (f, m, r, w) = parse-only (argsIn (listOf a)) (drop 36 t) g q in
       (record { fits = f; normal = m; roomy = r; few = n; size = omega (arith, ap length w, length-drop 36 t, h .most, h .least) }, w)
 
-  pub read-origin : Origin a t (fileOf (identityOf t) (listOf a) g)
+  pub read-origin : Gives a (fileOf (identityOf t) (listOf a) g) t × (normalFor (fileOf (identityOf t) (listOf a) g) ≡ fileOf (identityOf t) (listOf a) g)
   unfolding tableFor tableOf
   read-origin =
       let (s, w) = read-sound in
-      let k = sound-file (identityOf t) (listOf a) g (identity-length t (h .least)) (plain-listed a p) s in
-      record {
-        accepted = k .accepted;
-        list = k .list;
-        table = rw (k .identity, k .tree, norm-fixed g (s .normal), ← w) (table-back t b (h .least) (h .own) (h .sum));
-        normal = holds-normal (s .normal) k;
-      }
+      let k = sound-file (identityOf t) (listOf a) g (identity-length t (h .least)) (plain-listed a p) s in (
+        record {
+          accepted = k .accepted;
+          list = k .list;
+          table = rw (k .identity, k .tree, norm-fixed g (s .normal), ← w) (table-back t b (h .least) (h .own) (h .sum));
+        },
+        holds-normal (s .normal) k,
+      )
 
--- ── By the answer alone: a reading that is not refused by 1, 2, 3, 20, 12, 21 or 22
--- the answers 0 and 14
-abbrev pub isRead : ℕ → Bool
-isRead n = eqb n 0 || eqb n 14
+-- what is read of a table that a file gives is the file's normal forest
+tree-given : (a f t : List ℕ) → Plain a → Gives a f t → treeIn (listOf a) t ≡ some (norm (treeOf f))
+tree-given a f t p k = rw (← (k .table)) (table-tree a f p (k .accepted) (k .list))
 
-answer-framed : (a t out : List ℕ) → Plain a → T (isRead (readOf a t out .answer .number)) → Framed t × ((g : Forest) × (treeIn (listOf a) t ≡ some g))
-unfolding readOf readIn refusedBy
-answer-framed a t out p r =
-    by (ltb (length t) 36 || not (eqb (leAt 4 t 4) (length t))) refl (ltb 268435455 (length t)) refl (eqb (byteSum t) 0) refl (treeIn (listOf a) t) refl (rw (p .layout, p .none, p .fit) at r)
-  where
-    by : (u : Bool) → ltb (length t) 36 || not (eqb (leAt 4 t 4) (length t)) ≡ u → (v : Bool) → ltb 268435455 (length t) ≡ v → (w : Bool) → eqb (byteSum t) 0 ≡ w
-        → (o : Option Forest) → treeIn (listOf a) t ≡ o
-        → T (isRead (cond u (refusedBy 20 0 out) (cond v (refusedBy 12 0 out) (cond (not w) (refusedBy 21 0 out) (readIn (listOf a) t o out))) .answer .number))
-        → Framed t × ((g : Forest) × (treeIn (listOf a) t ≡ some g))
-    by true e₁ v e₂ w e₃ o e₄ r = absurd r
-    by false e₁ true e₂ w e₃ o e₄ r = absurd r
-    by false e₁ false e₂ false e₃ o e₄ r = absurd r
-    by false e₁ false e₂ true e₃ none e₄ r = absurd r
-    by false e₁ false e₂ true e₃ (some g) e₄ r =
-        let (l, m) = or-none (ltb (length t) 36) (not (eqb (leAt 4 t 4) (length t))) e₁ in
-        (record { least = ltb-false (length t) 36 l; own = eqb-true _ _ (not-false _ m); most = ltb-false 268435455 (length t) e₂; sum = eqb-true _ _ e₃ }, (g, e₄))
-
-pub read-only : (a t out : List ℕ) → Plain a → T (every isByte t) → T (isRead (readOf a t out .answer .number))
-    → (f : List ℕ) × Origin a t f × (readOf a t out ≡ handed f out)
+-- a table is read, as the normal form of a file that gives it; or it is refused with 22, and no file gives it
+pub reading : (a t out : List ℕ) → Plain a → Framed t → T (every isByte t)
+    → ((f : List ℕ) × Gives a f t × (readOf a t out ≡ handed (normalFor f) out)) ⊎ (((f : List ℕ) → Gives a f t → ⊥) × (readOf a t out ≡ refusedBy 22 0 out))
 unfolding readIn
-read-only a t out p b r =
-    let (h, (g, e)) = answer-framed a t out p r in
-    (fileOf (identityOf t) (listOf a) g, read-origin a t g p b h e, read-framed a t out p h ∙ rw e refl)
+reading a t out p h b = by (treeIn (listOf a) t) refl
+  where
+    by : (o : Option Forest) → treeIn (listOf a) t ≡ o
+        → ((f : List ℕ) × Gives a f t × (readOf a t out ≡ handed (normalFor f) out)) ⊎ (((f : List ℕ) → Gives a f t → ⊥) × (readOf a t out ≡ refusedBy 22 0 out))
+    by (some g) e =
+        let (k, n) = read-origin a t g p b h e in
+        inl (fileOf (identityOf t) (listOf a) g, k, read-framed a t out p h ∙ rw (e, n) refl)
+    by none e = inr ((λ f k. Option·none-ne-some (norm (treeOf f)) (sym e ∙ tree-given a f t p k)), read-framed a t out p h ∙ rw e refl)
 
--- so 22 is the answer only where no accepted file with these arities has this table
-handed-read : (bs out : List ℕ) → T (isRead (handed bs out .answer .number))
+-- what is handed over is not refused with 22
+pub handed-not-22 : (bs out : List ℕ) → handed bs out .answer .number ≡ 22 → ⊥
 unfolding handed refusedBy
-handed-read bs out = cond-case (λ (o : Outcome). T (isRead (o .answer .number))) (ltb (length out) (length bs)) _ _ (λ _. tt) (λ _. tt)
-
-pub refused-none : (a t out f : List ℕ) → Plain a → readOf a t out .answer .number ≡ 22 → Accepted f → listOf f ≡ listOf a → tableFor f ≡ t → ⊥
-refused-none a t out f p e h l k =
-    let r : readOf a t out ≡ handed (normalFor f) out = rw (← k) (read-table a f p h l out) in
-    let u : T (isRead (readOf a t out .answer .number)) = rw r (handed-read (normalFor f) out) in
-    rw e at u
+handed-not-22 bs out = cond-case (λ (o : Outcome). o .answer .number ≡ 22 → ⊥) (ltb (length out) (length bs)) _ _ (λ _ e. omega arith) (λ _ e. omega arith)

@@ -11,7 +11,8 @@ use lib.Seq.{take-at, drop-at, length-take-le, drop-drop, getD-take, getD-drop, 
 use Rattle.octets.specs.Bytes.{every, isByte, le, value, leAt}
 use Rattle.octets.specs.Tests.{and-left, and-right, and-both}
 use Rattle.octets.specs.Laws.{le-length, le-value}
-use Rattle.octets.specs.Sum.{byteSum, negated, total-set, negated-is}
+use Rattle.octets.specs.Sum.{byteSum, negated}
+use Rattle.octets.specs.SumLaws.{total-set, negated-is}
 use Rattle.sdt.specs.Table.{opened, measured, sealed}
 use Rattle.sdt.specs.TableLaws.{Alike, alike-sealed, sealed-alike, sealed-length, sealed-sums, sealed-field}
 use Rattle.whole.specs.Whole.{identityOf}

@@ -2,10 +2,10 @@
 -- Document 01, "Bytes" (Normal form), "Refusal numbers" (Accepted means ..; Reading: ..).
 -- Assumes nothing.
 use mathlib.Core.Path.{_≡_}
-use mathlib.Core.Bool.{_||_, not, cond}
+use mathlib.Core.Bool.{_||_, not, cond, true}
 use mathlib.Core.Option.{Option, none, some}
 use mathlib.Core.List.{List, _++_}
-use Prim.Native.Nat.{ℕ, _+_}
+use Prim.Native.Nat.{ℕ, _+_, _≤_}
 use lib.Dec.{eqb, leb, ltb}
 use lib.ListN.{length, take, drop}
 use Rattle.octets.specs.Bytes.{leAt}
@@ -16,7 +16,7 @@ use Rattle.tree.specs.Read.{parse}
 use Rattle.term.specs.File.{recordCount, identity, layoutOf}
 use Rattle.arity.specs.Arity.{Arity, aritiesOf, aritiesFit, argsIn}
 use Rattle.checker.specs.Refusal.{aritySection, poolSection, refusalOf}
-use Rattle.checker.specs.Accepted.{forestOf}
+use Rattle.checker.specs.Described.{forestOf}
 use Rattle.normal.specs.File.{fileOf}
 use Rattle.encode.specs.Encode.{tableOf, lateNumber, Outcome, refusedBy, handed, described, outcomeOf}
 
@@ -68,3 +68,23 @@ readOf a t out =
     (cond (ltb 268435455 (length t)) (refusedBy 12 0 out)
     (cond (not (eqb (byteSum t) 0)) (refusedBy 21 0 out)
     (readIn (listOf a) t (treeIn (listOf a) t) out))))))
+
+-- ── Which tables are whose
+-- an arity file that may be read by: neither 1, 2 nor 3 holds
+pub record Plain (a : List ℕ) : Type 0 where
+  pub layout : layoutOf a .number ≡ 0
+  pub none : recordCount a ≡ 0
+  pub fit : aritiesFit (aritySection a) (poolSection a) ≡ true
+
+-- a table that may be read: neither 20, 12 nor 21 holds
+pub record Framed (t : List ℕ) : Type 0 where
+  pub least : 36 ≤ length t
+  pub own : leAt 4 t 4 ≡ length t
+  pub most : length t ≤ 268435455
+  pub sum : byteSum t ≡ 0
+
+-- f is an accepted file with the arity list of a, and t is its table
+pub record Gives (a f t : List ℕ) : Type 0 where
+  pub accepted : Accepted f
+  pub list : listOf f ≡ listOf a
+  pub table : tableFor f ≡ t

@@ -3,6 +3,7 @@
 -- Assumes nothing.
 use mathlib.Core.Path.{_≡_, refl}
 use mathlib.Core.Bool.{Bool, true, false, _&&_, not, cond}
+use mathlib.Core.Option.{some}
 use mathlib.Core.List.{List, []}
 use Prim.Native.Nat.{ℕ, _+_, _≤_}
 use native.Mathlib.Omega.{arith}
@@ -15,12 +16,14 @@ use Rattle.grammar.specs.Kinds.{is, rank}
 use Rattle.grammar.specs.Forest.{Forest, depth, flatten}
 use Rattle.tree.specs.Fits.{Fits}
 use Rattle.tree.specs.Bytes.{bytes}
-use Rattle.tree.specs.Normal.{norm, normal, roomy}
+use Rattle.tree.specs.Normal.{norm, roomy}
+use Rattle.tree.specs.IsNormal.{normal}
 use Rattle.tree.specs.NormalLaws.{norm-norm, norm-depth, norm-fits, norm-normal, norm-fixed}
 use Rattle.term.specs.File.{identity, layoutOf}
 use Rattle.term.specs.Record.{recordsFrom}
 use Rattle.arity.specs.Arity.{Arity, aritiesFit, argsIn, argsOf}
 use Rattle.checker.specs.Refusal.{verdict, recordSection, aritySection, poolSection, scan, refusalOf}
+use Rattle.checker.specs.Described.{forestOf}
 use Rattle.checker.specs.Accepted.{accepted-forest}
 use Rattle.normal.specs.File.{fileOf}
 use Rattle.normal.specs.Writable.{Writable}
@@ -83,6 +86,11 @@ module _ (f : List ℕ) (a : Accepted f) where
   pub accepted-fits : Fits (argsIn (listOf f)) (λ _. InList) 64 0 (treeOf f)
   unfolding listOf treeOf argsOf described
   accepted-fits = let (g, e, h) = accepted-forest f (a .early) in rw e h
+
+  -- so that `described none` does not happen
+  pub accepted-tree-is : (g : Forest) × (forestOf f ≡ some g) × (treeOf f ≡ g)
+  unfolding treeOf described
+  accepted-tree-is = let (g, e, h) = accepted-forest f (a .early) in (g, e, rw e refl)
 
   pub accepted-sound : Sound (listOf f) (norm (treeOf f))
   unfolding is rank

@@ -1,17 +1,17 @@
 // Writes a term's text and numbers by the columns of its kind, and says how many bytes they take.
 ghost use mathlib.Core.Path.{_≡_};
 ghost use mathlib.Core.List.{_++_, _∷_, []};
-ghost use Prim.Native.Nat.{_+_, _≤_};
+ghost use Prim.Native.Nat.{_+_, _^_, _≤_, _<_};
 ghost use lib.Dec.{T};
 ghost use lib.ListN.{length};
 ghost use Rattle.octets.specs.Bytes.{le};
 ghost use Rattle.octets.specs.Filling.{Wrote};
-ghost use Rattle.grammar.specs.Kinds.{rowAt};
+ghost use Rattle.grammar.specs.Packed.{rowAt};
 ghost use Rattle.ident.specs.Ident.{isEisa, eisaId, isUuid, uuid};
 ghost use Rattle.fields.specs.Fields.{textFits, textSpelled};
-ghost use Rattle.fields.specs.Written.{pair, textBytes, formBytes, fieldBytes};
+ghost use Rattle.fields.specs.Written.{textBytes, formBytes, fieldBytes};
 ghost use Rattle.written.specs.Fine.{Fine, fieldsOf, narrow};
-ghost use Rattle.written.specs.FineLaws.{TextTakes, FormTakes, Held};
+ghost use Rattle.written.specs.FineLaws.{TextTakes, FormTakes};
 
 // ── Text
 
@@ -84,44 +84,40 @@ fn put_text(text: grammar::Text, kind: u64, t: &[u8], a: u64, x: u64, out: &mut 
 
 // ── Numbers
 
-// The bytes of numbers of this form, whatever their limits.
+// The bytes of numbers of this form, whatever a is.
 fn form_len(numbers: grammar::Numbers, x: u64) -> usize
     ensures { λ r. ⌜ FormTakes numbers x r ⌝ }
 {
     match numbers {
         grammar::Numbers::Digits { width, base } => width as usize,
-        grammar::Numbers::Swapped { width } => width as usize,
+        grammar::Numbers::MethodFlags => 1,
+        grammar::Numbers::LevelOrder => 3,
         grammar::Numbers::FieldFlags => 1,
         grammar::Numbers::IntegerX => number::int_len(x),
         grammar::Numbers::LengthX => number::pkg_length_len(x),
     }
 }
 
-// Two numbers as one of so many bytes; where it has none it is not made, and may be too large to be.
-fn put_digits(width: u64, base: u64, limit: u64, low: u64, high: u64, out: &mut [u8]) -> usize
-    requires { ⌜ Held width base limit low high × (length (le width (base + pair limit low high)) ≤ length (now out)) ⌝ }
-    ensures { λ r. ⌜ Wrote (le width (base + pair limit low high)) (now (out .entry)) (now (out .exit)) r ⌝ }
+// base + a in so many bytes. Most kinds have none, and for them no writer is called.
+fn put_digits(width: u64, base: u64, a: u64, out: &mut [u8]) -> usize
+    requires { ⌜ (base + a < 2 ^ 32) × (length (le width (base + a)) ≤ length (now out)) ⌝ }
+    ensures { λ r. ⌜ Wrote (le width (base + a)) (now (out .entry)) (now (out .exit)) r ⌝ }
 {
     if width == 0 {
         return 0;
     }
-    octets::put_le(width as usize, base + (low + (limit + 1) * high), out)
+    octets::put_le(width as usize, base + a, out)
 }
 
-fn put_form(
-    numbers: grammar::Numbers,
-    alimit: u64,
-    xlimit: u64,
-    a: u64,
-    x: u64,
-    out: &mut [u8],
-) -> usize
-    requires { ⌜ (length (formBytes numbers alimit xlimit a x) ≤ length (now out)) × T (narrow numbers alimit xlimit) × (a ≤ alimit) × (x ≤ xlimit) ⌝ }
-    ensures { λ r. ⌜ Wrote (formBytes numbers alimit xlimit a x) (now (out .entry)) (now (out .exit)) r ⌝ }
+// A level and then an order of two bytes are one number of three.
+fn put_form(numbers: grammar::Numbers, a: u64, x: u64, out: &mut [u8]) -> usize
+    requires { ⌜ (length (formBytes numbers a x) ≤ length (now out)) × T (narrow numbers a x) ⌝ }
+    ensures { λ r. ⌜ Wrote (formBytes numbers a x) (now (out .entry)) (now (out .exit)) r ⌝ }
 {
     match numbers {
-        grammar::Numbers::Digits { width, base } => put_digits(width, base, alimit, a, x, out),
-        grammar::Numbers::Swapped { width } => put_digits(width, 0, xlimit, x, a, out),
+        grammar::Numbers::Digits { width, base } => put_digits(width, base, a, out),
+        grammar::Numbers::MethodFlags => octets::put_le(1, a + 8 * x, out),
+        grammar::Numbers::LevelOrder => octets::put_le(3, x + 256 * a, out),
         grammar::Numbers::FieldFlags => octets::put_le(1, a, out),
         grammar::Numbers::IntegerX => number::put_int(x, out),
         grammar::Numbers::LengthX => number::create_pkg_length(x, false, out),
@@ -148,10 +144,8 @@ pub fn put_fields(j: usize, t: &[u8], a: u64, x: u64, out: &mut [u8]) -> usize
     let text = grammar::text_at(j);
     let kind = grammar::kind_at(j);
     let numbers = grammar::numbers_at(j);
-    let alimit = grammar::alimit_at(j);
-    let xlimit = grammar::xlimit_at(j);
     let mut at = 0;
     at = at + put_text(text, kind, t, a, x, &mut out[at..]);
-    at = at + put_form(numbers, alimit, xlimit, a, x, &mut out[at..]);
+    at = at + put_form(numbers, a, x, &mut out[at..]);
     at
 }

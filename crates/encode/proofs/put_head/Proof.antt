@@ -1,7 +1,7 @@
 -- `encode::put_head` meets its contract: the frame, then what is before the children. Assumes nothing.
 use native.Mathlib.Omega.{arith}
 use Rattle.octets.specs.Filling.{writing-start, writing-fits, writing-next, writing-within, writing-same, writing-end}
-use Rattle.grammar.specs.Kinds.{rowAt}
+use Rattle.grammar.specs.Packed.{rowAt}
 use Rattle.encode.specs.Terms.{ready-ops, head-framed}
 use borrow.Author.Needs.{needs}
 use Rattle.octets.specs.Known.{Known, known}

@@ -1,6 +1,6 @@
 -- `encode::term_len` meets its contract. Assumes nothing.
 use native.Mathlib.Omega.{arith}
-use Rattle.grammar.specs.Kinds.{rowAt}
+use Rattle.grammar.specs.Packed.{rowAt}
 use Rattle.encode.specs.Terms.{ready-ops, takes-few, takes-sum}
 use borrow.Author.Needs.{needs}
 use Rattle.encode.proofs.term_len.Statement.{statement}

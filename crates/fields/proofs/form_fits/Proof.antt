@@ -6,7 +6,7 @@ use Prim.Native.Nat.{ℕ}
 use types.Run.{miss}
 use borrow.Author.Needs.{needs}
 use Rattle.grammar.specs.declared.Numbers.{Numbers}
-use Rattle.grammar.specs.declared.Numbers.the-variants.{Digits, Swapped, FieldFlags, IntegerX, LengthX}
+use Rattle.grammar.specs.declared.Numbers.the-variants.{Digits, MethodFlags, LevelOrder, FieldFlags, IntegerX, LengthX}
 use Rattle.fields.specs.Fields.{formFits}
 use Rattle.fields.proofs.form_fits.Statement.{statement}
 use Rattle.fields.proofs.form_fits.Tie as tie
@@ -14,7 +14,8 @@ use Rattle.fields.proofs.form_fits.Tie as tie
 other : (n : Numbers) (a : ℕ) → (n ≡ FieldFlags → ⊥) → true ≡ formFits n a
 unfolding formFits
 other (Digits w b) a h = refl
-other (Swapped w) a h = refl
+other MethodFlags a h = refl
+other LevelOrder a h = refl
 other FieldFlags a h = absurd (h refl)
 other IntegerX a h = refl
 other LengthX a h = refl
@@ -27,5 +28,5 @@ form-fits-spec =
     (λ c. search needs)  -- enum-told
     (λ c κs. search needs)  -- flags-fit-requires
     (λ c. rw (c .before .enum-told .given .1) (c .flags-fit .ensures))  -- returns
-    (λ c. other (c .before .args .numbers) _ λ e. miss (0 ∷ 1 ∷ 3 ∷ 4 ∷ []) 2 tt (rw e at (c .match .keys2)))  -- returns-2
+    (λ c. other (c .before .args .numbers) _ λ e. miss (0 ∷ 1 ∷ 2 ∷ 4 ∷ 5 ∷ []) 3 tt (rw e at (c .match .keys2)))  -- returns-2
     )

@@ -1,7 +1,7 @@
 -- `frame::around_len` meets its contract: the fields stand on one of the two sides. Assumes nothing.
 use native.Mathlib.Omega.{arith}
 use borrow.Author.Needs.{needs}
-use Rattle.grammar.specs.Kinds.{rowAt}
+use Rattle.grammar.specs.Packed.{rowAt}
 use Rattle.written.specs.Fine.{fieldsOf}
 use Rattle.written.specs.WrittenMost.{field-most}
 use Rattle.frame.specs.FrameLaws.{beside-most, around-length}

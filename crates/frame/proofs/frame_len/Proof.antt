@@ -1,7 +1,7 @@
 -- `frame::frame_len` meets its contract: opcode and length are added. Assumes nothing.
 use native.Mathlib.Omega.{arith}
 use borrow.Author.Needs.{needs}
-use Rattle.grammar.specs.Kinds.{rowAt}
+use Rattle.grammar.specs.Packed.{rowAt}
 use Rattle.frame.specs.FrameLaws.{length-most, frame-length}
 use Rattle.frame.proofs.frame_len.Statement.{statement}
 use Rattle.frame.proofs.frame_len.Tie as tie

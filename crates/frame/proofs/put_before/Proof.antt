@@ -1,7 +1,7 @@
 -- `frame::put_before` meets its contract: the fields stand here or behind. Assumes nothing.
 use borrow.Author.Needs.{needs}
 use Rattle.octets.specs.Filling.{wrote-as}
-use Rattle.grammar.specs.Kinds.{rowAt}
+use Rattle.grammar.specs.Packed.{rowAt}
 use Rattle.written.specs.Fine.{fieldsOf}
 use Rattle.frame.specs.FrameLaws.{before-last, before-first}
 use Rattle.frame.proofs.put_before.Statement.{statement}

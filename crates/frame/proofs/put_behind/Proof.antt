@@ -2,7 +2,7 @@
 use native.Mathlib.Omega.{arith}
 use borrow.Author.Needs.{needs}
 use Rattle.octets.specs.Filling.{wrote-as, writing-fits, writing-next, writing-within, writing-same, writing-end}
-use Rattle.grammar.specs.Kinds.{rowAt}
+use Rattle.grammar.specs.Packed.{rowAt}
 use Rattle.fields.specs.Written.{fieldBytes}
 use Rattle.written.specs.Fine.{fieldsOf}
 use Rattle.written.specs.FineLaws.{two-start}

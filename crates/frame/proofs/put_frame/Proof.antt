@@ -2,7 +2,7 @@
 use native.Mathlib.Omega.{arith}
 use borrow.Author.Needs.{needs}
 use Rattle.octets.specs.Filling.{writing-start, writing-fits, writing-next, writing-within, writing-same, writing-end}
-use Rattle.grammar.specs.Kinds.{rowAt}
+use Rattle.grammar.specs.Packed.{rowAt}
 use Rattle.frame.specs.Frame.{frame-parts}
 use Rattle.octets.specs.Known.{Known, known}
 use Rattle.frame.proofs.put_frame.Statement.{statement}

@@ -6,7 +6,9 @@ use Prim.Native.Nat.{ℕ, _<_}
 use borrow.Table.Row.{get}
 use borrow.Author.Needs.{needs}
 use lib.ListN.{getD}
-use Rattle.path.specs.Path.{nameStart, leadName}
+use Rattle.octets.specs.Bytes.{value}
+use Rattle.path.specs.Path.{leadName}
+use Rattle.path.specs.Get.{nameStart}
 use Rattle.grammar.specs.Kinds.{normalKinds, stands, is, rank}
 use Rattle.grammar.specs.Family.{familyOf, familyIn, starts, familyName, beginsText, beginsNumbers, beginsInteger}
 use Rattle.grammar.specs.PackedLaws.{listed, listed-at}
@@ -19,7 +21,7 @@ abbrev families : List ℕ
 families = get 2 (lts.T2 .locals) (lts.m1 reads.Pre reads.Post (record { b = 0 }) [])
 
 family-at : (b : ℕ) → b < 256 → getD families b 0 ≡ familyOf b
-unfolding listed familyOf familyIn normalKinds starts stands is rank familyName beginsText nameStart leadName beginsNumbers beginsInteger
+unfolding listed familyOf familyIn normalKinds value starts stands is rank familyName beginsText nameStart leadName beginsNumbers beginsInteger
 family-at = listed-at familyOf 256 {l = families} 0 refl
 
 pub family-spec : {M : Type 1} → statement M

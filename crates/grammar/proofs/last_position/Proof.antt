@@ -1,7 +1,8 @@
 -- `grammar::last_position` meets its contract: each number is told, or is none of these. Assumes nothing.
 use mathlib.Core.Path.{refl}
 use borrow.Author.Tests.{ne-eqb}
-use Rattle.grammar.specs.Kinds.{kinds, normalKinds, otherKinds, position}
+use Rattle.grammar.specs.Kinds.{kinds, normalKinds, otherKinds}
+use Rattle.grammar.specs.Packed.{position}
 use Rattle.grammar.proofs.last_position.Statement.{statement}
 use Rattle.grammar.proofs.last_position.Tie as tie
 

@@ -14,5 +14,6 @@ numbers-of-spec =
     (λ c. rw (c .match .keys2) refl)  -- returns-2
     (λ c. rw (c .match .keys3) refl)  -- returns-3
     (λ c. rw (c .match .keys4) refl)  -- returns-4
-    (λ c. let r = c .match .rest in rw (ne-eqb _ _ (r .0 .0 .0 .1), ne-eqb _ _ (r .0 .0 .1), ne-eqb _ _ (r .0 .1), ne-eqb _ _ (r .1)) refl)  -- returns-5
+    (λ c. rw (c .match .keys5) refl)  -- returns-5
+    (λ c. let r = c .match .rest in rw (ne-eqb _ _ (r .0 .0 .0 .0 .1), ne-eqb _ _ (r .0 .0 .0 .1), ne-eqb _ _ (r .0 .0 .1), ne-eqb _ _ (r .0 .1), ne-eqb _ _ (r .1)) refl)  -- returns-6
     )

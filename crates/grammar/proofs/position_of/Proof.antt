@@ -3,7 +3,8 @@ use mathlib.Core.Path.{refl}
 use borrow.Author.Tests.{ne-eqb}
 use native.Mathlib.Omega.{arith}
 use borrow.Author.Needs.{needs}
-use Rattle.grammar.specs.Kinds.{kinds, normalKinds, otherKinds, position}
+use Rattle.grammar.specs.Kinds.{kinds, normalKinds, otherKinds}
+use Rattle.grammar.specs.Packed.{position}
 use Rattle.grammar.proofs.position_of.Statement.{statement}
 use Rattle.grammar.proofs.position_of.Tie as tie
 

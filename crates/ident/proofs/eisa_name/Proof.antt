@@ -3,12 +3,12 @@ use mathlib.Core.Path.{refl, sym, _∙_}
 use borrow.Author.Needs.{needs}
 use Rattle.octets.specs.Tests.{true-test}
 use Rattle.ident.specs.Ident.{eisaId}
-use Rattle.ident.specs.EisaOf.{eisaOf}
+use Rattle.ident.specs.EisaOf.{named, eisaOf}
 use Rattle.ident.proofs.eisa_name.Statement.{statement}
 use Rattle.ident.proofs.eisa_name.Tie as tie
 
 pub eisa-name-spec : {M : Type 1} → statement M
-unfolding eisaOf eisaId
+unfolding named eisaOf eisaId
 eisa-name-spec =
     tie.close
     (tie.spec

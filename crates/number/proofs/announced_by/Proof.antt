@@ -1,7 +1,7 @@
 -- `number::announced_by` meets its contract: its tests are those of `announced`. Assumes nothing.
 use mathlib.Core.Path.{refl}
 use borrow.Author.Tests.{ne-eqb}
-use Rattle.number.specs.Integer.{announced}
+use Rattle.number.specs.Get.{announced}
 use Rattle.number.proofs.announced_by.Statement.{statement}
 use Rattle.number.proofs.announced_by.Tie as tie
 

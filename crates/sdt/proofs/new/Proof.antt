@@ -42,8 +42,7 @@ use denote.Triple.Clauses.{ensured, lasts}
 use denote.Triple.Table.{entered, cited}
 use denote.Triple.Walked.{says, Stays, stay-none, stay-ref, gave-slice, stay-none-ref, walkOf, AllGo, goes-none, goes-ref, goes-gave-slice, goes-none-ref, Walks, ends-at, walked, walk-meets}
 use denote.Exit.{yes}
-use Rattle.sdt.specs.Edit.{newOf}
-use Rattle.sdt.specs.Answer.{Left}
+use Rattle.sdt.specs.Edit.{newOf, Left}
 use Rattle.sdt.specs.declared.Sdt.{Sdt}
 use Rattle.sdt.specs.declared.Edit.{Edit}
 use Rattle.sdt.proofs.Sdt as T

@@ -39,8 +39,7 @@ use denote.Triple.Clauses.{ensured, lasts}
 use denote.Triple.Table.{entered, cited}
 use denote.Triple.Walked.{says, Stays, stay-none, gave-slice, stay-none-slice, walkOf, AllGo, goes-none, goes-gave-slice, goes-none-slice, Walks, ends-at, walked, walk-meets}
 use denote.Exit.{yes}
-use Rattle.sdt.specs.Edit.{writeOf}
-use Rattle.sdt.specs.Answer.{Left}
+use Rattle.sdt.specs.Edit.{writeOf, Left}
 use Rattle.sdt.specs.declared.Sdt.{Sdt}
 use Rattle.sdt.specs.declared.Edit.{Edit}
 use Rattle.sdt.proofs.Sdt as T

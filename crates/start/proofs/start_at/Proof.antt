@@ -1,4 +1,4 @@
--- `start::start_at` meets its contract: each end of the code is one of `read`, or a kind that begins here. Assumes nothing.
+-- `start::start_at` meets its contract: each end of the code is one of `startAt`. Assumes nothing.
 use mathlib.Core.Path.{sym, _∙_}
 use native.Mathlib.Omega.{arith}
 use borrow.Author.Tests.{not-true, not-false}

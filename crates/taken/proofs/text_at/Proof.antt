@@ -3,8 +3,8 @@ use mathlib.Core.Path.{refl}
 use borrow.Author.Needs.{needs}
 use Rattle.octets.specs.Bytes.{_>>=_}
 use Rattle.octets.specs.Reading.{reads-none}
-use Rattle.path.specs.Path.{getPathLength}
-use Rattle.fields.specs.Written.{getText}
+use Rattle.path.specs.Get.{getPathLength}
+use Rattle.fields.specs.Get.{getText}
 use Rattle.taken.specs.Taken.{sized, getTextLength}
 use Rattle.taken.specs.TakenLaws.{unused-found, rest-found}
 use Rattle.taken.proofs.text_at.Statement.{statement}

@@ -3,6 +3,7 @@
 use mathlib.Core.Path.{refl, sym, _∙_}
 use Prim.Native.Nat.{_+_, _*_}
 use native.Mathlib.Omega.{arith}
+use lib.ListN.{drop}
 use lib.Seq.{length-take-le}
 use borrow.Author.Tests.{not-true, not-false}
 use borrow.Author.Needs.{needs}
@@ -12,7 +13,7 @@ use Rattle.tree.specs.Read.{read}
 use Rattle.tree.specs.TableLaws.{normal-row}
 use Rattle.arity.specs.Arity.{argsOf}
 use Rattle.taken.specs.TakenLaws.{taken, taken-none, row-short}
-use Rattle.start.specs.StartLaws.{starts-row}
+use Rattle.start.specs.StartLaws.{start-row}
 use Rattle.start.specs.Box.{opened, opened-none}
 use Rattle.walk.specs.Loop.{Turning, turning-start, turns, turning-bad, turning-next, turning-end, turning-spans}
 use Rattle.walk.specs.Steps.{first-none}
@@ -162,8 +163,10 @@ module _ (t : ℕ) where
   abbrev At-term-at : (term-at-lts.Claims → In 4 term-at-kinds.ps → Out 4 term-at-kinds.ps term-at-kinds.r → Type 0) → Type 0
   At-term-at Place = Place term-at-claims (term-at-at t) term-at.Post
 
-  abbrev term-at-starts-row₁ : At-term-at term-at-lts.After-row-at → Known
-  term-at-starts-row₁ c = known (starts-row (c .before .before .start-at .ensures) (c .before .if2 .left) (c .row-at .ensures))
+  abbrev term-at-start-row₁ : At-term-at term-at-lts.After-row-at → Known
+  term-at-start-row₁ c =
+      let at-start = c .before .before .before .before .before .before .before .before in
+      known (start-row (at-start .args .place) (drop (at-start .args .at) (at-start .args .b .now)) (c .before .before .start-at .ensures) (c .before .if2 .left) (c .row-at .ensures))
 
   abbrev term-at-opened₁ : At-term-at term-at-lts.After-value → Known
   term-at-opened₁ c = known (opened (c .value .given .1) (c .before .before .box-at .ensures))
@@ -256,19 +259,19 @@ pub +body-at+first-at+kids-at+last-at+term-at+terms-at-spec : {M : Type 1} → s
     (λ c κs. search needs)  -- term-at-bad-requires-2
     (λ c. let at-start-at = c .before .before in let at-start = at-start-at .before .before .before .before .before .before in term-nowhere _ _ _ _ _ (at-start .pre .1 .0 .within) (search) (at-start-at .start-at .ensures) (c .before .if2 .taken) (c .bad2 .ensures))  -- term-at-returns-2
     (λ c κs. search needs)  -- term-at-row-at-requires
-    (λ c. let at-start : At-term-at t term-at-lts.Start = search in omega (arith, begins-inside (at-start .args .b .now) (at-start .args .at) (term-at-starts-row₁ t c .holds) (at-start .pre .1 .0 .within), at-start .pre .1 .0 .most))  -- term-at-add-box-at
-    (λ c κs. let at-start : At-term-at t term-at-lts.Start = search in begins-inside (at-start .args .b .now) (at-start .args .at) (term-at-starts-row₁ t c .holds) (at-start .pre .1 .0 .within))  -- term-at-box-at-requires
+    (λ c. let at-start : At-term-at t term-at-lts.Start = search in omega (arith, begins-inside (at-start .args .b .now) (at-start .args .at) (term-at-start-row₁ t c .holds) (at-start .pre .1 .0 .within), at-start .pre .1 .0 .most))  -- term-at-add-box-at
+    (λ c κs. let at-start : At-term-at t term-at-lts.Start = search in begins-inside (at-start .args .b .now) (at-start .args .at) (term-at-start-row₁ t c .holds) (at-start .pre .1 .0 .within))  -- term-at-box-at-requires
     (λ c. search needs)  -- term-at-enum-known-value
     (λ c. sym (length-take-le _ _ (term-at-opened₁ t (search) .holds .high)))  -- term-at-slice-aggregate-body-at
     (λ c. search needs)  -- term-at-sub-body-at
-    (λ c κs. let at-value = c .before .before .before in let at-row-at = at-value .before .before .before in let at-else1 = at-row-at .before .before .before in let at-start = at-else1 .before .before .before .before .before in (omega (arith, above-zero _ (at-else1 .if1 .left)), (walkable-part (at-start .pre .1 .0) (term-at-opened₁ t at-value .holds), begins-normal (term-at-starts-row₁ t at-row-at .holds), omega (arith, above-zero _ (at-else1 .if1 .left), at-start .pre .1 .1))))  -- term-at-body-at-requires
+    (λ c κs. let at-value = c .before .before .before in let at-row-at = at-value .before .before .before in let at-else1 = at-row-at .before .before .before in let at-start = at-else1 .before .before .before .before .before in (omega (arith, above-zero _ (at-else1 .if1 .left)), (walkable-part (at-start .pre .1 .0) (term-at-opened₁ t at-value .holds), begins-normal (term-at-start-row₁ t at-row-at .holds), omega (arith, above-zero _ (at-else1 .if1 .left), at-start .pre .1 .1))))  -- term-at-body-at-requires
     (λ c κs. search needs)  -- term-at-either-requires
     (λ c κs. search needs)  -- term-at-only-if-requires
     (λ c. search needs)  -- term-at-enum-told
     (λ c κs. search needs)  -- term-at-bad-requires-3
     (λ c. let at-body-at : At-term-at t term-at-lts.After-body-at = search in at-body-at .body-at .ensures .same)  -- term-at-same-length
-    (λ c. let at-body-at = c .before .before .before .before .before in let at-value = at-body-at .before .before .before .before in let at-row-at = at-value .before .before .before in let at-else1 = at-row-at .before .before .before in let at-start = at-else1 .before .before .before .before .before in term-whole _ _ _ _ _ (at-start .pre .1 .0 .within) (at-else1 .if1 .left) (term-at-starts-row₁ t at-row-at .holds) (term-at-opened₁ t at-value .holds) (at-body-at .body-at .ensures) (c .before .either .ensures) (c .only-if .ensures))  -- term-at-returns-3
-    (λ c. let at-box-at = c .before .before .before in let at-row-at = at-box-at .before in let at-start = at-row-at .before .before .before .before .before .before .before .before in term-none _ _ _ _ _ (at-start .pre .1 .0 .within) (search) (term-at-starts-row₁ t at-row-at .holds) (opened-none (c .before .enum-told .given .1) (at-box-at .box-at .ensures)) (c .bad3 .ensures))  -- term-at-returns-4
+    (λ c. let at-body-at = c .before .before .before .before .before in let at-value = at-body-at .before .before .before .before in let at-row-at = at-value .before .before .before in let at-else1 = at-row-at .before .before .before in let at-start = at-else1 .before .before .before .before .before in term-whole _ _ _ _ _ (at-start .pre .1 .0 .within) (at-else1 .if1 .left) (term-at-start-row₁ t at-row-at .holds) (term-at-opened₁ t at-value .holds) (at-body-at .body-at .ensures) (c .before .either .ensures) (c .only-if .ensures))  -- term-at-returns-3
+    (λ c. let at-box-at = c .before .before .before in let at-row-at = at-box-at .before in let at-start = at-row-at .before .before .before .before .before .before .before .before in term-none _ _ _ _ _ (at-start .pre .1 .0 .within) (search) (term-at-start-row₁ t at-row-at .holds) (opened-none (c .before .enum-told .given .1) (at-box-at .box-at .ensures)) (c .bad3 .ensures))  -- term-at-returns-4
     )
     λ t. terms-at-lts.spec (terms-at-claims t)
     (terms-at-at t)

@@ -6,27 +6,26 @@ use borrow.Author.Needs.{needs}
 use lib.Dec.{T}
 use Rattle.octets.specs.Tests.{cond-true}
 use Rattle.ident.specs.Ident.{isEisa, eisaId}
-use Rattle.ident.specs.EisaOf.{eisaOf}
+use Rattle.ident.specs.EisaOf.{Named, named, eisaOf}
 use Rattle.ident.specs.declared.EISAName.{EISAName}
-use Rattle.ident.specs.declared.EISAName.the-variants.{Value, Malformed}
 use Rattle.written.proofs.eisa_value.Statement.{statement}
 use Rattle.written.proofs.eisa_value.Tie as tie
 
 abbrev valueOf : EISAName → ℕ
-valueOf (Value v) = v
-valueOf Malformed = 0
+valueOf r = named r .value
 
-value-is : (t : List ℕ) → T (isEisa t) → {r : EISAName} → r ≡ eisaOf t → valueOf r ≡ eisaId t
+value-is : (t : List ℕ) (r : EISAName) → T (isEisa t) → named r ≡ eisaOf t → valueOf r ≡ eisaId t
 unfolding eisaOf
-value-is t h e = ap valueOf (e ∙ cond-true (isEisa t) _ _ h)
+value-is t r h e = ap (λ (n : Named). n .value) (e ∙ cond-true (isEisa t) _ _ h)
 
 pub eisa-value-spec : {M : Type 1} → statement M
+unfolding named
 eisa-value-spec =
     tie.close
     (tie.spec
     (λ c κs. search needs)  -- eisa-name-requires
     (λ c. search needs)  -- enum-known-found
     (λ c. search needs)  -- enum-told
-    (λ c. sym (ap valueOf (c .before .found .given .1)) ∙ value-is _ (c .before .before .before .before .before .pre) (c .before .before .before .eisa-name .ensures))  -- returns
-    (λ c. sym (ap valueOf (c .enum-told .given .1)) ∙ value-is _ (c .before .before .before .before .pre) (c .before .before .eisa-name .ensures))  -- returns-2
+    (λ c. sym (ap valueOf (c .before .found .given .1)) ∙ value-is _ (c .before .before .before .eisa-name .result) (c .before .before .before .before .before .pre) (c .before .before .before .eisa-name .ensures))  -- returns
+    (λ c. sym (ap valueOf (c .enum-told .given .1)) ∙ value-is _ (c .before .before .eisa-name .result) (c .before .before .before .before .pre) (c .before .before .eisa-name .ensures))  -- returns-2
     )

@@ -7,7 +7,7 @@ use lib.ListN.{length, length-append}
 use Rattle.grammar.specs.declared.Numbers.{Numbers}
 use Rattle.grammar.specs.declared.Row.{Row}
 use Rattle.grammar.specs.declared.Text.{Text}
-use Rattle.grammar.specs.Kinds.{rowAt}
+use Rattle.grammar.specs.Packed.{rowAt}
 use Rattle.grammar.specs.Forest.{Fields}
 use Rattle.fields.specs.Written.{textBytes, formBytes, fieldBytes}
 use Rattle.written.specs.Fine.{Fine, fieldsOf}
@@ -17,7 +17,8 @@ use Rattle.written.proofs.field_len.Statement.{statement}
 use Rattle.written.proofs.field_len.Tie as tie
 
 two-lengths : {r : Row} {t : Text} {k : ℕ} {f : Numbers} → Columns r t k f → (v : Fields) → Fine r v → {m n : ℕ} → TextTakes t k (v .text) m → FormTakes f (v .x) n → m + n ≡ length (fieldBytes r v)
-two-lengths {r} {t} {k} {f} e v h p q = ap₂ _+_ (p (v .a) (v .x) (columns-text e v h)) (q (r .alimit) (r .xlimit) (v .a)) ∙ sym (length-append (textBytes t k v) (formBytes f (r .alimit) (r .xlimit) (v .a) (v .x))) ∙ sym (ap length (columns-bytes e v))
+two-lengths {r} {t} {k} {f} e v h p q =
+    ap₂ _+_ (p (v .a) (v .x) (columns-text e v h)) (q (v .a)) ∙ sym (length-append (textBytes t k v) (formBytes f (v .a) (v .x))) ∙ sym (ap length (columns-bytes e v))
 
 pub field-len-spec : {M : Type 1} → statement M
 field-len-spec =

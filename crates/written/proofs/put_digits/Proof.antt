@@ -1,4 +1,4 @@
--- `written::put_digits` meets its contract: the number is small where it has bytes. Assumes nothing.
+-- `written::put_digits` meets its contract: no bytes where there are none to write. Assumes nothing.
 use mathlib.Core.Path.{_≡_, refl}
 use mathlib.Core.List.{[]}
 use Prim.Native.Nat.{ℕ}
@@ -18,10 +18,7 @@ put-digits-spec =
     tie.close
     (tie.spec
     (λ c. wrote-as (no-digits _ (c .if1 .taken)) (record { count = refl; is = refl }))  -- returns
-    (λ c. omega (arith, c .before .before .pre .0 (c .if1 .left) .1))  -- add-put-le
-    (λ c. omega (arith, c .before .before .pre .0 (c .if1 .left) .0))  -- mul-put-le
-    (λ c. omega (arith, c .before .before .pre .0 (c .if1 .left) .0))  -- add-put-le-2
-    (λ c. omega (arith, c .before .before .pre .0 (c .if1 .left) .0))  -- add-put-le-3
+    (λ c. omega (arith, c .before .before .pre .0))  -- add-put-le
     (λ c κs. c .before .before .before .pre .1)  -- put-le-requires
     (λ c. search needs)  -- same-length
     (λ c. c .before .before .put-le .ensures)  -- returns-2

@@ -1,7 +1,6 @@
 -- `written::put_text` meets its contract, by the form of the text. Assumes nothing.
 use mathlib.Core.Path.{refl}
 use borrow.Author.Needs.{needs}
-use Rattle.ident.specs.Ident.{eisaName}
 use Rattle.fields.specs.Fields.{textSpelled}
 use Rattle.fields.specs.Written.{textBytes}
 use Rattle.written.specs.FineLaws.{valid-text}
@@ -9,7 +8,7 @@ use Rattle.written.proofs.put_text.Statement.{statement}
 use Rattle.written.proofs.put_text.Tie as tie
 
 pub put-text-spec : {M : Type 1} → statement M
-unfolding textBytes textSpelled eisaName
+unfolding textBytes textSpelled
 put-text-spec =
     tie.close
     (tie.spec

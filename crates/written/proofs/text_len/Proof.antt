@@ -5,7 +5,6 @@ use Prim.Native.Nat.{ℕ}
 use borrow.Author.Needs.{needs}
 use lib.ListN.{length, length-append}
 use Rattle.number.specs.Integer.{integer}
-use Rattle.ident.specs.Ident.{eisaName}
 use Rattle.descriptor.specs.DescriptorLaws.{descriptor-length}
 use Rattle.fields.specs.Fields.{textSpelled}
 use Rattle.fields.specs.Written.{textBytes}
@@ -14,7 +13,7 @@ use Rattle.written.proofs.text_len.Statement.{statement}
 use Rattle.written.proofs.text_len.Tie as tie
 
 pub text-len-spec : {M : Type 1} → statement M
-unfolding textBytes textSpelled eisaName
+unfolding textBytes textSpelled
 text-len-spec =
     tie.close
     (tie.spec
