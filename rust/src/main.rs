@@ -7,30 +7,8 @@ use std::io::{self, Write};
 use std::path::{Path, PathBuf};
 use std::process::ExitCode;
 
-const HELP: &str = "\
-acpi-table: ACPI tables from term files and back
-
-    acpi-table encode IN OUT              write the table of the term file IN to OUT
-    acpi-table read ARITIES TABLE OUT     write the term file of TABLE, in normal form, to OUT;
-                                          ARITIES is a term file without records that lists the methods' arguments
-    acpi-table normalise IN OUT           write the normal form of the term file IN to OUT
-    acpi-table check IN                   is the term file IN accepted?
-    acpi-table same TABLE FILE            does TABLE come from the term file FILE?
-    acpi-table --help | --version
-
-Each run writes one line to standard output:
-
-    ok LENGTH                             LENGTH is the number of bytes written to OUT; of IN (check); of TABLE (same)
-    refused NUMBER at INDEX: WORDS        the input is refused; INDEX counts records from 0, and is 0 where no record is meant
-    differs at OFFSET: table T, file F    same: the first byte that differs, and the lengths of TABLE and of FILE's table;
-                                          length field and checksum (4 to 7, 9) count only where no other byte differs
-
-Status: 0 ok; 1 refused, or differs; 2 wrong usage, or a file that cannot be read or written: then one line on standard
-error says why, and there is none on standard output.
-
-OUT is replaced as a whole or not at all: it is written beside, under another name, and then renamed. A refused input
-leaves OUT as it is. Sizes are limited by the library alone: 65,536 records, 4,096 arities, tables of 268,435,455 bytes.
-";
+/// The script acpi-table prints it from the same file, and so needs nothing for it.
+const USAGE: &str = include_str!("usage.txt");
 
 /// What is said on standard output, and the status.
 enum Said {
@@ -151,6 +129,12 @@ fn run_same(table: &OsStr, input: &OsStr) -> Result<Said, Trouble> {
     })
 }
 
+/// The calls that the usage lists, in one line.
+fn usage_line() -> String {
+    let calls = USAGE.lines().filter_map(|l| l.strip_prefix("    acpi-table ")).map(|l| l.split("  ").next().unwrap_or(l));
+    format!("usage: acpi-table {}", calls.collect::<Vec<_>>().join(" | "))
+}
+
 fn run(args: &[OsString]) -> Result<Said, Trouble> {
     let words: Vec<&OsStr> = args.iter().map(|a| a.as_os_str()).collect();
     let command = words.first().and_then(|w| w.to_str()).unwrap_or("");
@@ -160,10 +144,7 @@ fn run(args: &[OsString]) -> Result<Said, Trouble> {
         ("normalise", [input, out]) => run_normalise(input, out),
         ("check", [input]) => run_check(input),
         ("same", [table, input]) => run_same(table, input),
-        _ => {
-            Err("usage: acpi-table encode IN OUT | read ARITIES TABLE OUT | normalise IN OUT | check IN | same TABLE FILE | --help"
-                .to_string())
-        }
+        _ => Err(usage_line()),
     }
 }
 
@@ -183,7 +164,7 @@ fn tell(text: &str) -> Result<(), Trouble> {
 fn main() -> ExitCode {
     let args: Vec<OsString> = std::env::args_os().skip(1).collect();
     let told = match args.first().and_then(|a| a.to_str()) {
-        Some("--help" | "-h" | "help") => tell(HELP).map(|_| 0),
+        Some("--help" | "-h" | "help") => tell(USAGE).map(|_| 0),
         Some("--version") => tell(concat!("acpi-table ", env!("CARGO_PKG_VERSION"), "\n")).map(|_| 0),
         _ => run(&args).and_then(|s| tell(&line(&s)).map(|_| if matches!(s, Said::Fine(_)) { 0 } else { 1 })),
     };
