@@ -5,7 +5,7 @@ use Rattle.std.specs.Prelude.{◌≡◌, Bool, true, false, ◌&&◌, List, [], 
 use Rattle.std.proofs.Math.Path.{refl}
 use Rattle.std.proofs.Common.{sym, arith, add-one}
 use Rattle.std.proofs.Math.Bool.{and-true, and-false, and_assoc}
-use Rattle.std.proofs.Math.Option.{Option·elim}
+use Rattle.std.proofs.Math.Option.{Option-elim}
 use Rattle.std.proofs.Math.Dec.{leb, leb→le}
 use borrow.Author.Tests.{le-leb, lt-leb}
 use Rattle.octets.specs.Bytes.{le_at, ◌>>=◌}
@@ -53,7 +53,7 @@ module _ (pool : List ℕ) (e : Entry) where
 
 -- a path is not empty
 path_some : (t : List ℕ) (i m n : Bool) → i && is_path t && m && n && below [] t ≡ i && is_path t && m && n
-unfolding below is_path path_of unroot parts_of ◌>>=◌ Option·elim
+unfolding below is_path path_of unroot parts_of ◌>>=◌ Option-elim
 path_some [] i m n = rw (and-false i) refl
 path_some (c ∷ t) i m n = and-true _
 

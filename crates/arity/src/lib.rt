@@ -8,7 +8,7 @@ ghost use Rattle.arity.specs.ArityLaws.{fits_behind};
 ghost use Rattle.arity.specs.Order.{order_of};
 
 // An entry of the list: where its text lies in the pool, and how many arguments it takes.
-#[derive(Drop)]
+#[derive(Clone, Copy)]
 pub struct Entry {
     pub start: u64,
     pub len: u64,
@@ -16,7 +16,7 @@ pub struct Entry {
 }
 
 // How one text stands to another, bytewise, a prefix first.
-#[derive(Drop)]
+#[derive(Clone, Copy)]
 pub enum Order {
     Below,
     Same,

@@ -8,14 +8,14 @@ ghost use Rattle.checker.specs.Walk.{kids, check};
 ghost use Rattle.checker.specs.WalkLaws.{Told};
 
 // A refusal's number and the record at which it was found; 0: none of 1 to 10 holds.
-#[derive(Drop)]
+#[derive(Clone, Copy)]
 pub struct Verdict {
     pub number: u32,
     pub index: u64,
 }
 
 // Number 0 and the record behind those that were looked at; or the number and the faulty record.
-#[derive(Drop)]
+#[derive(Clone, Copy)]
 pub struct Step {
     pub number: u32,
     pub next: usize,

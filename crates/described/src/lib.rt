@@ -68,7 +68,7 @@ fn repeat(at: usize, stride: usize, end: usize, out: &mut [u8]) {
 
 // Where a description is being written: its part; the record, the field in it and its width, and the number so far.
 // Width 0 is no field: the number says how often the record stands. `count` is how many stand already, `end` the file's end.
-#[derive(Drop)]
+#[derive(Clone, Copy)]
 struct Pen {
     part: u64,
     at: usize,

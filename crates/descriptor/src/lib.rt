@@ -9,7 +9,7 @@ ghost use Rattle.descriptor.specs.Columns.{columns_of, size_of, text_columns, nu
 
 // A row as numbers: the bytes before x as one number in which a counts `unit`, and how many they are; the bytes of x and the
 // zeros behind it; the largest a and x; the text's length; the width of an address space's numbers, and the largest of them.
-#[derive(Drop)]
+#[derive(Clone, Copy)]
 pub struct Columns {
     pub head: u64,
     pub unit: u64,

@@ -14,7 +14,7 @@ ghost use Rattle.encode.specs.Answer.{whole, figures_number, walked};
 ghost use Rattle.encode.specs.TableLaws.{TableRoom};
 
 // A refusal's number and the record at which it was found; or 0, and how many bytes were written.
-#[derive(Drop)]
+#[derive(Clone, Copy)]
 pub struct Answer {
     pub number: u32,
     pub index: u64,
@@ -22,7 +22,7 @@ pub struct Answer {
 }
 
 // The size of some terms; how many records they have in normal form, and whether these go below the last level; the record behind.
-#[derive(Drop)]
+#[derive(Clone, Copy)]
 pub struct Sized {
     pub size: u64,
     pub records: u64,
@@ -31,7 +31,7 @@ pub struct Sized {
 }
 
 // How many bytes were written, and the record behind those that were.
-#[derive(Drop)]
+#[derive(Clone, Copy)]
 pub struct Done {
     pub size: usize,
     pub next: usize,

@@ -6,7 +6,7 @@ ghost use Rattle.grammar.specs.Family.{family_of};
 
 // Where a term may stand: in a list (L), as an operand or a target (V), as data (D); as a package's element, a field's entry, a
 // template's descriptor.
-#[derive(Drop)]
+#[derive(Clone, Copy)]
 pub enum Place {
     InList,
     Operand,
@@ -17,7 +17,7 @@ pub enum Place {
 }
 
 // Where a kind may stand, as document 01 writes it: L, L V, L V of a name, V, V D; and the two kinds of entries.
-#[derive(Drop)]
+#[derive(Clone, Copy)]
 pub enum Places {
     Lists,
     ListsOperands,
@@ -29,7 +29,7 @@ pub enum Places {
 }
 
 // What a kind's text is: a string's bytes are 01-7F and 00 ends it; a buffer's go to the end of its body.
-#[derive(Drop)]
+#[derive(Clone, Copy)]
 pub enum Text {
     Unused,
     PathText,
@@ -43,7 +43,7 @@ pub enum Text {
 
 // How a and x are written: base + a in so many bytes; a method's flags, a + 8 times x; a power resource's level x, then its order a; a
 // as the flags of a field; x as an integer; x as the length of a field's entry.
-#[derive(Drop)]
+#[derive(Clone, Copy)]
 pub enum Numbers {
     Digits { width: u64, base: u64 },
     MethodFlags,
@@ -55,7 +55,7 @@ pub enum Numbers {
 
 // Which children stand behind the operands: none; as many as the path's arity; a list, to the end of the body; up to 255 with their
 // number before them; or any number with the size of their bytes before them and the end tag behind.
-#[derive(Drop)]
+#[derive(Clone, Copy)]
 pub enum Rest {
     Nothing,
     Arity,
@@ -67,7 +67,7 @@ pub enum Rest {
 // A kind: its opcode (so many bytes, as one number whose low byte is first); whether a PkgLength follows; text, numbers, and the
 // largest a and x; whether these stand behind the children; how many operands it has and their place; the children behind them and
 // their place; where the kind may stand.
-#[derive(Drop)]
+#[derive(Clone, Copy)]
 pub struct Row {
     pub kind: u64,
     pub ops: u64,

@@ -10,14 +10,14 @@ ghost use Rattle.ident.specs.Parts.{char_test, letter_bits, is_hyphened, is_pair
 use octets::{between, both, either, wide};
 
 // The integer of an EISA id, or the answer that the text is none.
-#[derive(Drop)]
+#[derive(Clone, Copy)]
 pub enum EISAName {
     Value { value: u64 },
     Malformed,
 }
 
 // Where a register stands.
-#[derive(Drop)]
+#[derive(Clone, Copy)]
 pub struct GenericAddress {
     pub address_space_id: u8,
     pub register_bit_width: u8,
@@ -27,7 +27,7 @@ pub struct GenericAddress {
 }
 
 // A generic address, or the number of its refusal with all fields 0.
-#[derive(Drop)]
+#[derive(Clone, Copy)]
 pub struct Made {
     pub number: u32,
     pub address: GenericAddress,

@@ -9,7 +9,7 @@ ghost use Rattle.monitor.specs.Face.{Faced, face_of, verdict_of, edit_of, record
 
 // A refusal's number and the record at which it was found; or 0, and how many bytes were written.
 #[repr(C)]
-#[derive(Drop)]
+#[derive(Clone, Copy)]
 pub struct AcpiAnswer {
     pub number: u32,
     pub index: u32,
@@ -18,7 +18,7 @@ pub struct AcpiAnswer {
 
 // 0 or a refusal's number; the table's length and checksum, renewed, or as they came in where the edit was refused.
 #[repr(C)]
-#[derive(Drop)]
+#[derive(Clone, Copy)]
 pub struct AcpiEdit {
     pub number: u32,
     pub length: u32,

@@ -13,7 +13,7 @@ ghost use Rattle.normalise.specs.Pack.{integer_bytes, buffer_bytes, step_bytes, 
 ghost use Rattle.normalise.specs.Sections.{normal_file, Sections, Measures};
 
 // How many bytes of text a record becomes, and the record where the pass goes on.
-#[derive(Drop)]
+#[derive(Clone, Copy)]
 pub struct Step {
     pub texts: u64,
     pub next: usize,

@@ -1,6 +1,6 @@
 -- Paths as they are read from bytes, strictly, and the text that is had back.
 use Rattle.std.specs.Prelude.{Bool, true, ◌&&◌, ◌||◌, cond, List, [], ◌∷◌, ◌++◌, ℕ, zero, suc, eqb, leb, length}
-use Rattle.std.proofs.Math.Option.{none, some, Option·elim}
+use Rattle.std.proofs.Math.Option.{none, some, Option-elim}
 use Rattle.octets.specs.Bytes.{Reader, ◌>>=◌, need, cut}
 use Rattle.path.specs.Path.{Path, lead_name, root_of, segment, unroot}
 
@@ -57,7 +57,7 @@ get_path_length bs = do
 
 -- the text of the path whose bytes stand first, or nothing
 unfoldable pub path_text : List ℕ → List ℕ
-path_text bs = Option·elim (get_path_text bs) [] (λ v. v.0)
+path_text bs = Option-elim (get_path_text bs) [] (λ v. v.0)
 
 -- the bytes that may begin a path
 unfoldable pub name_start : ℕ → Bool

@@ -2,7 +2,7 @@
 -- Document 01, "The term file" (Path text); ACPI 6.4, 20.2.2 (NameString, NameSeg, DualNamePath, MultiNamePath). `Path` of the crate.
 -- Assumes nothing.
 use Rattle.std.specs.Prelude.{Bool, true, false, ◌&&◌, ◌||◌, cond, ℕ, eqb, leb, length}
-use Rattle.std.proofs.Math.Option.{Option, none, some, Option·elim}
+use Rattle.std.proofs.Math.Option.{Option, none, some, Option-elim}
 use mathlib.Core.List.{List, [], ◌∷◌, ◌++◌, flatten}
 use Rattle.octets.specs.Bytes.{◌>>=◌, need, every}
 
@@ -47,7 +47,7 @@ path_of t = do
 
 -- whether a text is a path
 unfoldable pub is_path : List ℕ → Bool
-is_path t = Option·elim (path_of t) false (λ p. true)
+is_path t = Option-elim (path_of t) false (λ p. true)
 
 -- ── As bytes
 -- before n segments: nothing, 2E, or 2F and n
@@ -59,4 +59,4 @@ bytes_of p = root_of p.root ++ (count_bytes (length p.parts) ++ flatten p.parts)
 
 -- the bytes of the path that a text spells
 unfoldable pub path_bytes : List ℕ → List ℕ
-path_bytes t = Option·elim (path_of t) [] bytes_of
+path_bytes t = Option-elim (path_of t) [] bytes_of

@@ -3,7 +3,7 @@
 use Rattle.std.specs.Prelude.{◌≡◌, refl, List, ◌++◌, ℕ, ◌+◌, ◌-◌, ◌≤◌, T, drop}
 use Rattle.std.proofs.Math.Path.{sym, ap}
 use Rattle.std.proofs.Common.{◌∙◌, length-drop, drop-drop}
-use Rattle.std.proofs.Math.Option.{some, Option·elim}
+use Rattle.std.proofs.Math.Option.{some, Option-elim}
 use native.Mathlib.Omega.{arith}
 use Rattle.std.proofs.Math.ListN.{length, length-append}
 use Rattle.std.proofs.Math.Seq.{drop-append_seam}
@@ -19,7 +19,7 @@ use Rattle.path.specs.PathLaws.{path-text_exact}
 -- what is read is a path's text, and its length is the number that is answered
 module _ (bs : List ℕ) (v : ℕ) (rest : List ℕ) (h : get_path_length bs ≡ some (v, rest)) where
   pub text-read : (get_path_text bs ≡ some (path_text bs, rest)) × (length (path_text bs) ≡ v)
-  unfolding get_path_length path_text Option·elim
+  unfolding get_path_length path_text Option-elim
   text-read = took (get_path_text bs) _ h λ t r h₁ h₂. let (p, q) = gave h₂ in rw (h₁, q) (refl, p)
 
   pub path-read-only : T (is_path (path_text bs)) × (bs ≡ path_bytes (path_text bs) ++ rest)
@@ -37,5 +37,5 @@ module _ (b : List ℕ) (at : ℕ) (t rest : List ℕ) (g : T (is_path t)) (h : 
       reads_determined r _ k (reads (record { is = rw (e, behind, path-text_exact.back t rest g); low = omega arith; high = omega arith }))
 
   pub path-text-back : path_text (drop at b) ≡ t
-  unfolding path_text Option·elim
+  unfolding path_text Option-elim
   path-text-back = rw (e, path-text_exact.back t rest g)

@@ -3,7 +3,7 @@
 -- Assumes nothing.
 use Rattle.std.specs.Prelude.{◌≡◌, refl, Bool, true, false, ◌&&◌, ◌||◌, not, cond, ℕ, zero, suc, ◌+◌, ◌-◌, ◌*◌, ◌/◌, ◌≤◌, T, eqb, leb, length}
 use Rattle.std.proofs.Common.{sym, ◌∙◌, ap, ap₂, arith, T_not, eqb→eq, leb→le, le→leb, lt→ltb, length-append}
-use Rattle.std.proofs.Math.Option.{Option, none, some, none-ne-some, some-injective, Option·elim}
+use Rattle.std.proofs.Math.Option.{Option, none, some, none-ne-some, some-injective, Option-elim}
 use mathlib.Core.List.{List, [], ◌∷◌, ◌++◌, append_assoc, append-nil, flatten}
 use Rattle.std.proofs.Math.Dec.{eqb_refl}
 use Rattle.octets.specs.Bytes.{Reader, ◌>>=◌, need, every, is_byte, cut}
@@ -288,15 +288,15 @@ path_exact = record {
 
 -- ── Text and bytes together: what a text that is a path spells
 pub path-known : {C : Type 0} (t : List ℕ) → T (is_path t) → ((p : Path) → T (well_formed p) → t ≡ text_of p → path_bytes t ≡ bytes_of p → C) → C
-unfolding is_path path_bytes Option·elim
+unfolding is_path path_bytes Option-elim
 path-known {C} t h k = go (path_of t) refl h
   where
-    go : (o : Option Path) → path_of t ≡ o → T (Option·elim o false (λ p. true)) → C
+    go : (o : Option Path) → path_of t ≡ o → T (Option-elim o false (λ p. true)) → C
     go none e h = absurd h
     go (some p) e h = let (w, q) = text-only t p e in k p w q (rw e refl)
 
 text-known : (p : Path) → T (well_formed p) → T (is_path (text_of p)) × (path_bytes (text_of p) ≡ bytes_of p)
-unfolding is_path path_bytes Option·elim
+unfolding is_path path_bytes Option-elim
 text-known p h = rw (text-back p h) (tt, refl)
 
 pub path-text_exact : Exact path_bytes get_path_text (λ t. T (is_path t))
@@ -432,9 +432,9 @@ count-length n h = count_case (λ y. length y ≤ n + 1) n (λ e. omega arith) (
 
 -- also of a text that is no path, which spells no bytes
 pub path-most : (t : List ℕ) → length (path_bytes t) ≤ length t + 2
-unfolding is_path path_bytes Option·elim
+unfolding is_path path_bytes Option-elim
 path-most t = go (path_of t) refl
   where
-    go : (o : Option Path) → path_of t ≡ o → length (Option·elim o [] bytes_of) ≤ length t + 2
+    go : (o : Option Path) → path_of t ≡ o → length (Option-elim o [] bytes_of) ≤ length t + 2
     go none e = omega arith
-    go (some p) e = let m = path-text-length t (rw e tt) in omega (arith, ap (λ (o : Option Path). length (Option·elim o [] bytes_of)) e, m.text, m.bytes, count-length (part_count t) m.least, m.least)
+    go (some p) e = let m = path-text-length t (rw e tt) in omega (arith, ap (λ (o : Option Path). length (Option-elim o [] bytes_of)) e, m.text, m.bytes, count-length (part_count t) m.least, m.least)

@@ -4,7 +4,7 @@ use Rattle.std.proofs.Math.Path.{◌≡◌, refl}
 use Rattle.std.proofs.Common.{sym, ◌∙◌, ap, length-take, length-drop, drop_at}
 use Rattle.std.specs.Prelude.{Bool, true, ◌&&◌, T, leb, take, drop, get_or}
 use Rattle.std.proofs.Math.Bool.{false}
-use Rattle.std.proofs.Math.Option.{Option, none, some, Option·elim}
+use Rattle.std.proofs.Math.Option.{Option, none, some, Option-elim}
 use mathlib.Core.List.{List, ◌∷◌, ◌++◌, flatten}
 use Prim.Native.Nat.{ℕ, suc, ◌+◌, ◌-◌, ◌*◌, ◌≤◌, ◌<◌}
 use native.Mathlib.Omega.{arith}
@@ -65,7 +65,7 @@ count_most {b} {at} {n} {q} g = (count-only (drop at b) n (drop q b) g.is).1
 
 -- ── The segments: whether n of them stand first
 unfoldable pub runs : ℕ → List ℕ → Bool
-runs n bs = Option·elim (get_parts n bs) false (λ v. true)
+runs n bs = Option-elim (get_parts n bs) false (λ v. true)
 
 -- a reader of four bytes that have to be a segment
 segment-first : {A : Type 0} (bs : List ℕ) (f : List ℕ × List ℕ → Option A) → (cut 4 bs >>= λ v. need (segment v.0) (f v)) ≡ need (segment (take 4 bs)) (f (take 4 bs, drop 4 bs))
@@ -85,10 +85,10 @@ unfolding segment_at
 segment-there b at e = omega (arith, segment-length (take 4 (drop at b)) (true_test _ e), length-take 4 (drop at b), length-drop at b)
 
 runs-more : (n : ℕ) (bs : List ℕ) → segment (take 4 bs) && runs n (drop 4 bs) ≡ runs (suc n) bs
-unfolding runs get_parts Option·elim need ◌>>=◌
-runs-more n bs = on (segment (take 4 bs)) (get_parts n (drop 4 bs)) ∙ ap (λ m. Option·elim m false (λ v. true)) (sym (segment-first bs (λ v. get_parts n v.1 >>= λ w. some (v.0 ∷ w.0, w.1))))
+unfolding runs get_parts Option-elim need ◌>>=◌
+runs-more n bs = on (segment (take 4 bs)) (get_parts n (drop 4 bs)) ∙ ap (λ m. Option-elim m false (λ v. true)) (sym (segment-first bs (λ v. get_parts n v.1 >>= λ w. some (v.0 ∷ w.0, w.1))))
   where
-    on : (x : Bool) (m : Option (List (List ℕ) × List ℕ)) → x && Option·elim m false (λ v. true) ≡ Option·elim {A = List (List ℕ) × List ℕ} (need x (m >>= λ v. some (take 4 bs ∷ v.0, v.1))) false (λ v. true)
+    on : (x : Bool) (m : Option (List (List ℕ) × List ℕ)) → x && Option-elim m false (λ v. true) ≡ Option-elim {A = List (List ℕ) × List ℕ} (need x (m >>= λ v. some (take 4 bs ∷ v.0, v.1))) false (λ v. true)
     on true none = refl
     on true (some v) = refl
     on false m = refl
@@ -104,7 +104,7 @@ module _ {b : List ℕ} {from n : ℕ} where
 
   module _ {i : ℕ} (h : Running b from n i) where
     pub running_end : n ≤ i → true ≡ runs n (drop from b)
-    unfolding runs get_parts Option·elim
+    unfolding runs get_parts Option-elim
     running_end z = let e : n - i ≡ 0 = omega arith in rw e at h.left
 
     module _ (z : i < n) where
@@ -130,10 +130,10 @@ pub record Ran (n : ℕ) (bs : List ℕ) : Type 0 where
   pub bytes : bs ≡ flatten parts ++ drop (4 * n) bs
 
 pub ran : (n : ℕ) (bs : List ℕ) → runs n bs ≡ true → Ran n bs
-unfolding runs Option·elim
+unfolding runs Option-elim
 ran n bs h = go (get_parts n bs) refl h
   where
-    go : (m : Option (List (List ℕ) × List ℕ)) → get_parts n bs ≡ m → Option·elim m false (λ v. true) ≡ true → Ran n bs
+    go : (m : Option (List (List ℕ) × List ℕ)) → get_parts n bs ≡ m → Option-elim m false (λ v. true) ≡ true → Ran n bs
     go none e h = let z : ◌≡◌ {A = ℕ} 0 1 = cc in absurd (omega arith)
     go (some v) e h =
         let (k, s, q) = names_only n bs v.0 v.1 e in
@@ -156,10 +156,10 @@ module _ (b : List ℕ) (at : ℕ) {k : ℕ} (is : k ≡ root_size (drop at b)) 
 
   module _ {n q : ℕ} (c : Got get_count b (at + k) n q) where
     pub path_broken : runs n (drop q b) ≡ false → Reads get_path_length b at num.None
-    unfolding get_path_length get_path_text get_path ◌>>=◌ runs Option·elim
+    unfolding get_path_length get_path_text get_path ◌>>=◌ runs Option-elim
     path_broken h = reads_none (go (get_parts n (drop q b)) refl h)
       where
-        go : (m : Option (List (List ℕ) × List ℕ)) → get_parts n (drop q b) ≡ m → Option·elim m false (λ v. true) ≡ false → get_path_length (drop at b) ≡ none
+        go : (m : Option (List (List ℕ) × List ℕ)) → get_parts n (drop q b) ≡ m → Option-elim m false (λ v. true) ≡ false → get_path_length (drop at b) ≡ none
         go none e h = rw (unrooted, c.is, e)
         go (some v) e h = let z : ◌≡◌ {A = ℕ} 0 1 = cc in absurd (omega arith)
 

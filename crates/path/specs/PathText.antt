@@ -4,7 +4,7 @@ use Rattle.std.specs.Prelude.{◌≡◌, Bool, ◌&&◌, List, [], ◌∷◌, �
 use Rattle.std.proofs.Math.Path.{refl, sym}
 use Rattle.std.proofs.Common.{◌∙◌, ap, arith, length-append, length-take-le, take_all, drop-drop, get_or-drop}
 use Rattle.std.proofs.Math.Bool.{true, false}
-use Rattle.std.proofs.Math.Option.{Option, none, some, Option·elim}
+use Rattle.std.proofs.Math.Option.{Option, none, some, Option-elim}
 use Rattle.std.proofs.Math.ListN.{length-take, length-drop}
 use Rattle.std.proofs.Math.Seq.{take-append_seam, drop-append_seam, split_at}
 use borrow.Author.Tests.{eq-eqb, ne_eqb, le-leb, lt-leb, leb-true, leb-false}
@@ -80,24 +80,24 @@ module _ (b : List ℕ) (at : ℕ) (h : at < length b) where
 
 -- ── Whether a text is segments joined by dots, decided by the first and what is behind it
 unfoldable pub chain : List ℕ → Bool
-chain u = Option·elim (parts_of u) false (λ ss. true)
+chain u = Option-elim (parts_of u) false (λ ss. true)
 
 chain-last : (u : List ℕ) → length u ≤ 4 → segment (take 4 u) ≡ chain u
-unfolding chain Option·elim need
+unfolding chain Option-elim need
 chain-last u h = rw (take_all 4 u h, parts_last u h) (go (segment u))
   where
-    go : (x : Bool) → x ≡ Option·elim (need x (some (u ∷ []))) false (λ ss. true)
+    go : (x : Bool) → x ≡ Option-elim (need x (some (u ∷ []))) false (λ ss. true)
     go true = refl
     go false = refl
 
 chain_more : (u : List ℕ) → 4 < length u → segment (take 4 u) && eqb (get_or u 4 0) 0x2E && chain (drop 5 u) ≡ chain u
-unfolding chain Option·elim need ◌>>=◌
+unfolding chain Option-elim need ◌>>=◌
 chain_more u h =
     let e : parts_of u ≡ need (segment (take 4 u) && eqb (get_or u 4 0) 0x2E) (parts_of (drop 5 u) >>= λ ss. some (take 4 u ∷ ss)) =
     ap parts_of (split_at u 4 0 h) ∙ parts_more (take 4 u) (drop 5 u) (get_or u 4 0) (length-take-le 4 u (omega arith)) in
     rw e (go (segment (take 4 u) && eqb (get_or u 4 0) 0x2E) (parts_of (drop 5 u)))
   where
-    go : (x : Bool) (m : Option (List (List ℕ))) → x && Option·elim m false (λ ss. true) ≡ Option·elim (need x (m >>= λ ss. some (take 4 u ∷ ss))) false (λ ss. true)
+    go : (x : Bool) (m : Option (List (List ℕ))) → x && Option-elim m false (λ ss. true) ≡ Option-elim (need x (m >>= λ ss. some (take 4 u ∷ ss))) false (λ ss. true)
     go true none = refl
     go true (some ss) = refl
     go false m = refl
@@ -111,14 +111,14 @@ few n h = go (leb n 255) refl
     go false e = lt-leb (5 * n - 1) 1274 (omega (arith, leb-false n 255 e))
 
 is-path : (t : List ℕ) → chain (unroot t).1 && leb (length (unroot t).1) 1274 ≡ is_path t
-unfolding is_path path_of chain Option·elim need ◌>>=◌
+unfolding is_path path_of chain Option-elim need ◌>>=◌
 is-path t = go (parts_of (unroot t).1) refl
   where
-    kept : (x : Bool) (p : Path) → x ≡ Option·elim (need x (some p)) false (λ p. true)
+    kept : (x : Bool) (p : Path) → x ≡ Option-elim (need x (some p)) false (λ p. true)
     kept true p = refl
     kept false p = refl
 
-    go : (m : Option (List (List ℕ))) → parts_of (unroot t).1 ≡ m → Option·elim m false (λ ss. true) && leb (length (unroot t).1) 1274 ≡ Option·elim {A = Path} (m >>= λ ss. need (leb (length ss) 255) (some (record { root = (unroot t).0; parts = ss }))) false (λ p. true)
+    go : (m : Option (List (List ℕ))) → parts_of (unroot t).1 ≡ m → Option-elim m false (λ ss. true) && leb (length (unroot t).1) 1274 ≡ Option-elim {A = Path} (m >>= λ ss. need (leb (length ss) 255) (some (record { root = (unroot t).0; parts = ss }))) false (λ p. true)
     go none e = refl
     go (some ss) e = let (l, k) = parts-length (unroot t).1 ss e in rw (k, few (length ss) l) (kept (leb (length ss) 255) _)
 

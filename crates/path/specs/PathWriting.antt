@@ -3,7 +3,7 @@
 use Rattle.std.specs.Prelude.{◌≡◌, true, ℕ, zero, suc, ◌+◌, ◌-◌, ◌*◌, ◌/◌, ◌≤◌, ◌<◌, T}
 use Rattle.std.proofs.Math.Path.{refl}
 use Rattle.std.proofs.Common.{sym, ◌∙◌, ap, mul-suc, sub-one, ne_eqb, length-drop, drop-drop}
-use Rattle.std.proofs.Math.Option.{Option, none, some, Option·elim, none-ne-some}
+use Rattle.std.proofs.Math.Option.{Option, none, some, Option-elim, none-ne-some}
 use mathlib.Core.List.{List, [], ◌∷◌, ◌++◌, flatten}
 use native.Mathlib.Omega.{arith}
 use Rattle.std.proofs.Math.ListN.{length, take, drop, length-append}
@@ -174,7 +174,7 @@ module _ (b : List ℕ) (at next : ℕ) {k : ℕ} (p : Path) (d : PathRead (drop
       })
 
 pub text_at_lem : {b : List ℕ} {at v next k : ℕ} → Got get_path_length b at v next → k ≡ root_size (drop at b) → TextAt b at k v next ((v - k + 1) / 5)
-unfolding get_path_length get_path_text path_text Option·elim ◌>>=◌
+unfolding get_path_length get_path_text path_text Option-elim ◌>>=◌
 text_at_lem {b} {at} {v} {next} {k} g is =
     took (get_path_text (drop at b)) _ g.is λ t r h₁ h₂.
     took (get_path (drop at b)) _ h₁ λ p z h₃ h₄.
@@ -188,7 +188,7 @@ text_in-parts h = parts₂ h.text
 
 -- nothing is written where no path stands
 pub no_text : (bs : List ℕ) {out : List ℕ} → get_path_length bs ≡ none → Wrote (path_text bs) out out 0
-unfolding get_path_length path_text Option·elim ◌>>=◌
+unfolding get_path_length path_text Option-elim ◌>>=◌
 no_text bs {out} h = go (get_path_text bs) refl h
   where
     go : (m : Option (List ℕ × List ℕ)) → get_path_text bs ≡ m → ◌>>=◌ {B = ℕ × List ℕ} m (λ v. some (length v.0, v.1)) ≡ none → Wrote (path_text bs) out out 0

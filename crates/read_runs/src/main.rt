@@ -132,7 +132,7 @@ fn run_appended(file: &[u8], list: &[u8], piece: &[u8]) {
 }
 
 // How many of the tables were read, and one number for their files.
-#[derive(Drop)]
+#[derive(Clone, Copy)]
 struct Tally {
     files: u64,
     mixed: u64,

@@ -6,14 +6,14 @@ ghost use Rattle.sdt.specs.Answer.{Sealed, zeros, size_number, header};
 
 // The table's length and checksum.
 #[repr(C)]
-#[derive(Drop)]
+#[derive(Clone, Copy)]
 pub struct Sdt {
     pub length: u32,
     pub checksum: u8,
 }
 
 // The answer to an edit: 0 or the refusal's number, and the record as it is left.
-#[derive(Drop)]
+#[derive(Clone, Copy)]
 pub struct Edit {
     pub number: u32,
     pub table: Sdt,

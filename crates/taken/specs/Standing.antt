@@ -2,7 +2,7 @@
 -- Assumes nothing.
 use Rattle.std.specs.Prelude.{◌≡◌, refl, Bool, true, false, List, [], ◌∷◌, ◌++◌, ℕ, T, length, take, drop}
 use Rattle.std.proofs.Common.{ap, append_assoc, arith, eqb→eq}
-use Rattle.std.proofs.Math.Option.{Option·elim}
+use Rattle.std.proofs.Math.Option.{Option-elim}
 use Rattle.std.proofs.Math.Seq.{take-append_seam}
 use Rattle.octets.specs.Bytes.{begins}
 use Rattle.octets.specs.Tests.{and_left, and_right, took, gave}
@@ -71,7 +71,7 @@ module _ {row : Row} {b : List ℕ} {at len a x next : ℕ} (h : Took row b at l
 
   -- a path's text is what its bytes spell
   pub took-path : row.text ≡ PathText → path_text (drop at b) ≡ h.text
-  unfolding get_fields get_text path_text Option·elim
+  unfolding get_fields get_text path_text Option-elim
   took-path e =
       took (get_text row.text (drop at b)) _ h.is λ t y h₁ h₂.
       took (get_form row.numbers row.alimit row.xlimit y) _ h₂ λ u z h₃ h₄.

@@ -7,7 +7,7 @@ ghost use Rattle.taken.specs.Taken.{Takes, sized, get_text_length, get_number, u
 use octets::{Num, both};
 
 // The text's length, the numbers, and where they end; or none.
-#[derive(Drop)]
+#[derive(Clone, Copy)]
 pub enum Taken {
     Some {
         len: u64,
@@ -19,7 +19,7 @@ pub enum Taken {
 }
 
 // What one number holds: whether it is one of the row's at all, a, and x.
-#[derive(Drop)]
+#[derive(Clone, Copy)]
 pub struct Parts {
     pub fit: bool,
     pub a: u64,

@@ -4,7 +4,7 @@ ghost use Rattle.term.specs.File.{touching, laid_out, few, refused_by, layout_of
 ghost use Rattle.term.specs.Record.{record_at, text_at};
 
 // Refusal 1 or 2, or 0 and where arities and pool begin.
-#[derive(Drop)]
+#[derive(Clone, Copy)]
 pub struct Layout {
     pub number: u32,
     pub arities: usize,
@@ -12,7 +12,7 @@ pub struct Layout {
 }
 
 // A record of the file.
-#[derive(Drop)]
+#[derive(Clone, Copy)]
 pub struct Record {
     pub kind: u64,
     pub a: u64,

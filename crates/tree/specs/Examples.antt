@@ -1,7 +1,7 @@
 -- Worked examples: terms, their bytes, and the same bytes read back. Document 01, "Kinds", "Bytes" and "Bytes to check against".
 -- Assumes nothing.
 use Rattle.std.specs.Prelude.{◌≡◌, refl, ℕ}
-use Rattle.std.proofs.Math.Option.{none, some, Option·elim}
+use Rattle.std.proofs.Math.Option.{none, some, Option-elim}
 use mathlib.Core.List.{List, [], ◌∷◌, map, flatten}
 use Rattle.octets.specs.Bytes.{◌>>=◌, need, every, cut, begins, le, value, get_le}
 use Rattle.number.specs.Integer.{integer, width, prefix}
@@ -50,7 +50,7 @@ examples =
     ∷ []
 
 pub examples-written : map (λ (e : Forest × List ℕ). bytes e.0) examples ≡ map (λ (e : Forest × List ℕ). e.1) examples
-unfolding bytes term_bytes box body before behind front back opcode le value row_in row_of find kinds normal_kinds count field_bytes text_bytes form_bytes path_bytes Option·elim path_of parts_of unroot need ◌>>=◌ segment lead_name name_char every bytes_of root_of count_bytes integer width prefix create_pkg_length following length_bytes flatten
+unfolding bytes term_bytes box body before behind front back opcode le value row_in row_of find kinds normal_kinds count field_bytes text_bytes form_bytes path_bytes Option-elim path_of parts_of unroot need ◌>>=◌ segment lead_name name_char every bytes_of root_of count_bytes integer width prefix create_pkg_length following length_bytes flatten
 examples-written = refl
 
 pub examples-read : map (λ (e : Forest × List ℕ). parse (λ t. 2) e.1) examples ≡ map (λ (e : Forest × List ℕ). some e.0) examples

@@ -15,7 +15,7 @@ use octets::Num;
 use taken::Taken;
 
 // What was walked over: how many records and bytes of text it has, how many terms at its top, and where it ends; or that it is no terms.
-#[derive(Drop)]
+#[derive(Clone, Copy)]
 pub struct Walk {
     pub ok: bool,
     pub records: usize,
