@@ -1,0 +1,13 @@
+-- `descriptor::flags_fit` meets its contract, by the type. Assumes nothing.
+use mathlib.Core.Path.{refl}
+use borrow.Author.Tests.{ne_eqb}
+use Rattle.descriptor.proofs.flags_fit.Goals as goal
+
+pub returns-then-a-eq0 : goal.returns-then-a-eq0
+returns-then-a-eq0 c = rw c.if-a-eq0.true refl
+
+pub returns-then-a-eq1 : goal.returns-then-a-eq1
+returns-then-a-eq1 c = rw c.if-a-eq1.true refl
+
+pub returns : goal.returns
+returns c = rw (ne_eqb _ 0 c.if-a-eq0.false, ne_eqb _ 1 c.if-a-eq1.false) refl

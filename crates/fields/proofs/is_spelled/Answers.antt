@@ -1,0 +1,5 @@
+-- `fields::is_spelled` meets its contract, which is the text's test. Assumes nothing.
+use Rattle.fields.proofs.is_spelled.Goals as goal
+
+pub returns : goal.returns
+returns c = c.text_spelled.ensures

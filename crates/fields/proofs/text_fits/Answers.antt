@@ -1,0 +1,31 @@
+-- `fields::text_fits` meets its contract: an unused text is empty, a descriptor's text has its row. Assumes nothing.
+use mathlib.Core.Path.{◌≡◌, refl}
+use mathlib.Core.Bool.{true}
+use mathlib.Core.List.{List, [], ◌∷◌}
+use Prim.Native.Nat.{ℕ}
+use types.Run.{miss}
+use Rattle.grammar.specs.declared.Text.{Text}
+use Rattle.grammar.specs.declared.Text.TheVariants.{Unused, PathText, SegmentText, Ascii, AnyBytes, EisaText, UuidText, DescriptorText}
+use Rattle.fields.specs.Fields.{text_fits}
+use Rattle.fields.proofs.text_fits.Goals as goal
+
+other : (c : Text) (kind : ℕ) (t : List ℕ) (a x : ℕ) → (c ≡ Unused → ⊥) → (c ≡ DescriptorText → ⊥) → true ≡ text_fits c kind t a x
+unfolding text_fits
+other Unused kind t a x h g = absurd (h refl)
+other PathText kind t a x h g = refl
+other SegmentText kind t a x h g = refl
+other Ascii kind t a x h g = refl
+other AnyBytes kind t a x h g = refl
+other EisaText kind t a x h g = refl
+other UuidText kind t a x h g = refl
+other DescriptorText kind t a x h g = absurd (g refl)
+
+pub returns-in-Unused : goal.returns-in-Unused
+returns-in-Unused c = rw c.in-Unused.is refl
+
+pub returns-in-DescriptorText : goal.returns-in-DescriptorText
+returns-in-DescriptorText c = rw c.in-DescriptorText.is c.descriptor_in_range.ensures
+
+pub returns-in_default : goal.returns-in_default
+returns-in_default c =
+    other c.args.text _ _ _ _ (λ e. miss (1 ∷ 2 ∷ 3 ∷ 4 ∷ 5 ∷ 6 ∷ []) 0 tt (rw e at c.in_default.in_default-own.keys3)) λ e. miss (1 ∷ 2 ∷ 3 ∷ 4 ∷ 5 ∷ 6 ∷ []) 7 tt (rw e at c.in_default.in_default-own.keys3)

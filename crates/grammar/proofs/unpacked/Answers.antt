@@ -1,0 +1,7 @@
+-- `grammar::unpacked` meets its contract: each column is the digit at its place. Assumes nothing.
+use Rattle.grammar.specs.PackedLaws.{row_made}
+use Rattle.grammar.proofs.unpacked.Goals as goal
+
+pub returns : goal.returns
+returns c =
+    row_made _ c.second_of-v.ensures c.third_of-x.ensures c.text_of-text.ensures c.numbers_of-numbers.ensures c.place_of-operand.ensures c.rest_of-rest.ensures c.place_of-place.ensures c.places_of-places.ensures

@@ -1,0 +1,6 @@
+-- `ident::has_hyphens` meets its contract: the tests at the four places. Assumes nothing.
+use mathlib.Core.Bool.{and-true}
+use Rattle.ident.proofs.has_hyphens.Goals as goal
+
+pub returns : goal.returns
+returns c = rw and-true (cc)

@@ -1,0 +1,11 @@
+-- `ident::is_uuid` meets its contract: the length, the hyphens and the pairs of digits. Assumes nothing.
+use mathlib.Core.Path.{◌∙◌, ap₂}
+use mathlib.Core.Bool.{◌&&◌}
+use Rattle.ident.specs.IdentLaws.{sized_not, sized-is}
+use Rattle.ident.proofs.is_uuid.Goals as goal
+
+pub returns-then-t-ne36 : goal.returns-then-t-ne36
+returns-then-t-ne36 c = sized_not _ _ c.if-t-ne36.true
+
+pub returns : goal.returns
+returns c = c.both.ensures ∙ ap₂ ◌&&◌ c.has_hyphens.ensures c.has_pairs.ensures ∙ sized-is _ _ c.if-t-ne36.false

@@ -1,0 +1,10 @@
+-- `number::own_form` meets its contract: its tests are those of `own_form`. Assumes nothing.
+use mathlib.Core.Path.{refl}
+use borrow.Author.Tests.{lt-leb, le-leb}
+use Rattle.number.proofs.own_form.Goals as goal
+
+pub returns-then-x-lt2 : goal.returns-then-x-lt2
+returns-then-x-lt2 c = rw (lt-leb _ _ c.if-x-lt2.true) refl
+
+pub returns : goal.returns
+returns c = rw (le-leb _ _ c.if-x-lt2.false, ← c.int_width.ensures) refl

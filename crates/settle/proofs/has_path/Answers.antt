@@ -1,0 +1,11 @@
+-- `settle::has_path` meets its contract, by the row of the kind. Assumes nothing.
+use mathlib.Core.Path.{refl, ◌∙◌}
+use Rattle.grammar.specs.KindLaws.{row-known, row_unknown}
+use Rattle.walk.specs.Calls.{is_path_text}
+use Rattle.settle.proofs.has_path.Goals as goal
+
+pub returns-then-j-ge67 : goal.returns-then-j-ge67
+returns-then-j-ge67 c = rw (row_unknown _ _ c.position_of-j.ensures c.if-j-ge67.true) refl
+
+pub returns : goal.returns
+returns c = c.is_path_text.ensures ∙ rw (row-known _ _ c.position_of-j.ensures c.if-j-ge67.false c.row_at-row.ensures) refl

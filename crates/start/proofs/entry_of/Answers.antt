@@ -1,0 +1,10 @@
+-- `start::entry_of` meets its contract: each side of its test. Assumes nothing.
+use mathlib.Core.Path.{refl}
+use borrow.Author.Tests.{eq-eqb, ne_eqb}
+use Rattle.start.proofs.entry_of.Goals as goal
+
+pub returns-then-c-eq0 : goal.returns-then-c-eq0
+returns-then-c-eq0 c = rw (eq-eqb _ _ c.if-c-eq0.true) refl
+
+pub returns-else-c-eq0 : goal.returns-else-c-eq0
+returns-else-c-eq0 c = rw (ne_eqb _ _ c.if-c-eq0.false) refl

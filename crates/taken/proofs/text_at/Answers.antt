@@ -1,0 +1,29 @@
+-- `taken::text_at` meets its contract, by the form of the text. Assumes nothing.
+use mathlib.Core.Path.{refl}
+use Rattle.octets.specs.Reading.{reads_none}
+use Rattle.taken.specs.TakenLaws.{unused_found, rest-found}
+use Rattle.taken.proofs.text_at.Goals as goal
+
+pub returns-in-Unused : goal.returns-in-Unused
+returns-in-Unused c = rw c.in-Unused.is (unused_found _ _ c.requires)
+
+pub returns-in-PathText : goal.returns-in-PathText
+returns-in-PathText c = rw c.in-PathText.is c.path_at.ensures
+
+pub returns-in-SegmentText : goal.returns-in-SegmentText
+returns-in-SegmentText c = rw c.in-SegmentText.is c.segment_at.ensures
+
+pub returns-in-Ascii : goal.returns-in-Ascii
+returns-in-Ascii c = rw c.in-Ascii.is c.string_at.ensures
+
+pub returns-in-AnyBytes : goal.returns-in-AnyBytes
+returns-in-AnyBytes c = rw c.in-AnyBytes.is (rest-found _ _ c.requires)
+
+pub returns-in-EisaText : goal.returns-in-EisaText
+returns-in-EisaText c = rw c.in-EisaText.is (reads_none refl)
+
+pub returns-in-UuidText : goal.returns-in-UuidText
+returns-in-UuidText c = rw c.in-UuidText.is (reads_none refl)
+
+pub returns-in-DescriptorText : goal.returns-in-DescriptorText
+returns-in-DescriptorText c = rw c.in-DescriptorText.is (reads_none refl)

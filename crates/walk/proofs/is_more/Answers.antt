@@ -1,0 +1,6 @@
+-- `walk::is_more` meets its contract. Assumes nothing.
+use mathlib.Core.Path.{refl}
+use Rattle.walk.proofs.is_more.Goals as goal
+
+pub returns : goal.returns
+returns c = rw (c.both-2.ensures, c.both.ensures) refl

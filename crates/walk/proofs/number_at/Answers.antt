@@ -1,0 +1,21 @@
+-- `walk::number_at` meets its contract, by the form of the children. Assumes nothing.
+use mathlib.Core.Path.{refl}
+use native.Mathlib.Omega.{arith}
+use lib.ListN.{length-drop}
+use Rattle.octets.specs.Reading.{reads, reads_none}
+use Rattle.walk.proofs.number_at.Goals as goal
+
+pub returns-in-Nothing : goal.returns-in-Nothing
+returns-in-Nothing c = rw c.in-Nothing.is (reads (record { is = refl; low = omega arith; high = c.requires }))
+
+pub returns-in-Arity : goal.returns-in-Arity
+returns-in-Arity c = rw c.in-Arity.is (reads (record { is = refl; low = omega arith; high = c.requires }))
+
+pub returns-in-Listed : goal.returns-in-Listed
+returns-in-Listed c = rw c.in-Listed.is (reads (record { is = rw length-drop refl; low = omega arith; high = c.requires }))
+
+pub returns-in-Counted : goal.returns-in-Counted
+returns-in-Counted c = rw c.in-Counted.is c.le_at.ensures
+
+pub returns-in-Measured : goal.returns-in-Measured
+returns-in-Measured c = rw c.in-Measured.is (reads_none refl)

@@ -1,0 +1,22 @@
+-- `written::form_len` meets its contract, by the form of the numbers. Assumes nothing.
+use mathlib.Core.Path.{refl, sym}
+use Rattle.octets.specs.Laws.{le-length}
+use Rattle.written.proofs.form_len.Goals as goal
+
+pub returns-in-Digits : goal.returns-in-Digits
+returns-in-Digits c = λ a. rw c.in-Digits.is (sym (le-length _ _))
+
+pub returns-in-MethodFlags : goal.returns-in-MethodFlags
+returns-in-MethodFlags c = λ a. rw c.in-MethodFlags.is refl
+
+pub returns-in-LevelOrder : goal.returns-in-LevelOrder
+returns-in-LevelOrder c = λ a. rw c.in-LevelOrder.is refl
+
+pub returns-in-FieldFlags : goal.returns-in-FieldFlags
+returns-in-FieldFlags c = λ a. rw c.in-FieldFlags.is refl
+
+pub returns-in-IntegerX : goal.returns-in-IntegerX
+returns-in-IntegerX c = λ a. rw c.in-IntegerX.is c.int_len.ensures
+
+pub returns-in-LengthX : goal.returns-in-LengthX
+returns-in-LengthX c = λ a. rw c.in-LengthX.is c.pkg_length_len.ensures.1

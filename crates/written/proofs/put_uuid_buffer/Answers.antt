@@ -1,0 +1,40 @@
+-- `written::put_uuid_buffer` meets its contract: what stands before 16 bytes, then these. Assumes nothing.
+use native.Mathlib.Omega.{arith}
+use Rattle.octets.specs.Filling.{writing_fits, writing_next, writing_within, writing_same, writing_end}
+use Rattle.number.specs.Buffer.{buffer_front}
+use Rattle.ident.specs.Ident.{uuid_bytes}
+use Rattle.ident.specs.IdentLaws.{uuid-length}
+use Rattle.written.specs.FineLaws.{two-start, uuid-front}
+use Rattle.written.proofs.put_uuid_buffer.Goals as goal
+
+pub put_buffer_front-at-requires : goal.put_buffer_front-at-requires
+put_buffer_front-at-requires c =
+    (writing_fits (let d = c.args in two-start (buffer_front 16) (uuid_bytes d.t.now) d.out.now (uuid-front d.t.now) c.requires.1), omega arith)
+
+pub overflow_add-at : goal.overflow_add-at
+overflow_add-at c =
+    let h = (writing_next (let d = c.args in two-start (buffer_front 16) (uuid_bytes d.t.now) d.out.now (uuid-front d.t.now) c.requires.1) c.put_buffer_front-at.ensures) in omega (arith, writing_within h, writing_same h, c.well_formed.1.0.0)
+
+pub slice_bounds-put_uuid-count : goal.slice_bounds-put_uuid-count
+slice_bounds-put_uuid-count c =
+    writing_within (writing_next (let d = c.args in two-start (buffer_front 16) (uuid_bytes d.t.now) d.out.now (uuid-front d.t.now) c.requires.1) c.put_buffer_front-at.ensures)
+
+pub slice_bounds-put_uuid-start : goal.slice_bounds-put_uuid-start
+slice_bounds-put_uuid-start c =
+    writing_within (writing_next (let d = c.args in two-start (buffer_front 16) (uuid_bytes d.t.now) d.out.now (uuid-front d.t.now) c.requires.1) c.put_buffer_front-at.ensures)
+
+pub put_uuid-at-requires : goal.put_uuid-at-requires
+put_uuid-at-requires c =
+    (c.requires.0, omega (arith, writing_fits (writing_next (let d = c.args in two-start (buffer_front 16) (uuid_bytes d.t.now) d.out.now (uuid-front d.t.now) c.requires.1) c.put_buffer_front-at.ensures), uuid-length c.args.t.now))
+
+pub overflow_add-at-2 : goal.overflow_add-at-2
+overflow_add-at-2 c =
+    let h = (writing_next (writing_next (let d = c.args in two-start (buffer_front 16) (uuid_bytes d.t.now) d.out.now (uuid-front d.t.now) c.requires.1) c.put_buffer_front-at.ensures) c.put_uuid-at.ensures) in omega (arith, writing_within h, writing_same h, c.well_formed.1.0.0)
+
+pub shape_of-out : goal.shape_of-out
+shape_of-out c =
+    writing_same (writing_next (writing_next (let d = c.args in two-start (buffer_front 16) (uuid_bytes d.t.now) d.out.now (uuid-front d.t.now) c.requires.1) c.put_buffer_front-at.ensures) c.put_uuid-at.ensures)
+
+pub returns : goal.returns
+returns c =
+    writing_end (writing_next (writing_next (let d = c.args in two-start (buffer_front 16) (uuid_bytes d.t.now) d.out.now (uuid-front d.t.now) c.requires.1) c.put_buffer_front-at.ensures) c.put_uuid-at.ensures)
