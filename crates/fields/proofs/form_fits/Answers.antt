@@ -19,7 +19,9 @@ other IntegerX a h = refl
 other LengthX a h = refl
 
 pub returns-in-FieldFlags : goal.returns-in-FieldFlags
+unfolding form_fits
 returns-in-FieldFlags c = rw c.in-FieldFlags.is c.flags_fit.ensures
 
 pub returns-in_default : goal.returns-in_default
+unfolding form_fits
 returns-in_default c = other c.args.numbers _ λ e. miss (0 ∷ 1 ∷ 2 ∷ 4 ∷ 5 ∷ []) 3 tt (rw e at c.in_default.in_default-own.keys2)

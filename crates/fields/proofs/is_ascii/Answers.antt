@@ -30,10 +30,13 @@ record Looking (t : List ℕ) (fine : Bool) (i : ℕ) : Type 0 where
   left : fine && every ascii (drop i t) ≡ every ascii t
 
 pub loop-i-init : goal.loop-i-init
+unfolding ascii
 loop-i-init c = record { left = refl }
 
 pub loop-i-preserved : goal.loop-i-preserved
+unfolding ascii
 loop-i-preserved c = looking_turn c.loop-i.invariant c.loop-i-test.true c.between.ensures c.both-fine.ensures
 
 pub returns : goal.returns
+unfolding ascii
 returns c = looking_end c.loop-i.invariant c.loop-i-test.false

@@ -21,11 +21,14 @@ other UuidText kind t a x h g = refl
 other DescriptorText kind t a x h g = absurd (g refl)
 
 pub returns-in-Unused : goal.returns-in-Unused
+unfolding text_fits
 returns-in-Unused c = rw c.in-Unused.is refl
 
 pub returns-in-DescriptorText : goal.returns-in-DescriptorText
+unfolding text_fits
 returns-in-DescriptorText c = rw c.in-DescriptorText.is c.descriptor_in_range.ensures
 
 pub returns-in_default : goal.returns-in_default
+unfolding text_fits
 returns-in_default c =
     other c.args.text _ _ _ _ (λ e. miss (1 ∷ 2 ∷ 3 ∷ 4 ∷ 5 ∷ 6 ∷ []) 0 tt (rw e at c.in_default.in_default-own.keys3)) λ e. miss (1 ∷ 2 ∷ 3 ∷ 4 ∷ 5 ∷ 6 ∷ []) 7 tt (rw e at c.in_default.in_default-own.keys3)

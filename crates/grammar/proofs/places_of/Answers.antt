@@ -1,26 +1,34 @@
 -- `grammar::places_of` meets its contract: each code is told, or is none of them. Assumes nothing.
 use mathlib.Core.Path.{refl}
 use borrow.Author.Tests.{ne_eqb}
+use Rattle.grammar.specs.Packed.{places_of}
 use Rattle.grammar.proofs.places_of.Goals as goal
 
 pub returns-in-1 : goal.returns-in-1
+unfolding places_of
 returns-in-1 c = rw c.in-1.is refl
 
 pub returns-in-2 : goal.returns-in-2
+unfolding places_of
 returns-in-2 c = rw c.in-2.is refl
 
 pub returns-in-3 : goal.returns-in-3
+unfolding places_of
 returns-in-3 c = rw c.in-3.is refl
 
 pub returns-in-4 : goal.returns-in-4
+unfolding places_of
 returns-in-4 c = rw c.in-4.is refl
 
 pub returns-in-5 : goal.returns-in-5
+unfolding places_of
 returns-in-5 c = rw c.in-5.is refl
 
 pub returns-in-6 : goal.returns-in-6
+unfolding places_of
 returns-in-6 c = rw c.in-6.is refl
 
 pub returns-in_default : goal.returns-in_default
+unfolding places_of
 returns-in_default c =
     let r = c.in_default.in_default-own.rest in rw (ne_eqb _ _ r.0.0.0.0.0.1, ne_eqb _ _ r.0.0.0.0.1, ne_eqb _ _ r.0.0.0.1, ne_eqb _ _ r.0.0.1, ne_eqb _ _ r.0.1, ne_eqb _ _ r.1) refl

@@ -17,7 +17,9 @@ unfolding eisa_of
 value-is t r h e = ap (λ (n : Named). n.value) (e ∙ cond_true (is_eisa t) _ _ h)
 
 pub returns-in-Value : goal.returns-in-Value
+unfolding named
 returns-in-Value c = sym (ap value_of c.in-Value.is) ∙ value-is _ c.eisa_name-found.result c.requires c.eisa_name-found.ensures
 
 pub returns-in-Malformed : goal.returns-in-Malformed
+unfolding named
 returns-in-Malformed c = sym (ap value_of c.in-Malformed.is) ∙ value-is _ c.eisa_name-found.result c.requires c.eisa_name-found.ensures
