@@ -52,7 +52,7 @@ digit_raised b =
 
 pub char-raised : (t : List ℕ) (i : ℕ) → char (raised t) i ≡ raise (char t i)
 unfolding raise
-char-raised t i = ListN.get_d_map raise t i 0
+char-raised t i = ListN.get_or-map raise t i 0
 
 digit_at-raised : (t : List ℕ) (i : ℕ) → digit_at (raised t) i ≡ digit_at t i
 digit_at-raised t i = ap hex_digit (char-raised t i) ∙ digit_raised (char t i)
@@ -151,10 +151,10 @@ pub uuid-raised : (t : List ℕ) → uuid_bytes (raised t) ≡ uuid_bytes t
 unfolding uuid_bytes
 uuid-raised t = map_congr_left {f = pair_byte (raised t)} {g = pair_byte t} {l = uuid_places} (λ i _. rw (digit_at-raised t i, digit_at-raised t (suc i)) refl)
 
-get_d_map : (m : ℕ → ℕ) (ps : List ℕ) (k : ℕ) → k < length ps → get_or (map m ps) k 0 ≡ m (get_or ps k 0)
-get_d_map m [] k h = absurd (omega arith)
-get_d_map m (p ∷ ps) zero h = refl
-get_d_map m (p ∷ ps) (suc k) h = get_d_map m ps k (omega arith)
+get_or-map : (m : ℕ → ℕ) (ps : List ℕ) (k : ℕ) → k < length ps → get_or (map m ps) k 0 ≡ m (get_or ps k 0)
+get_or-map m [] k h = absurd (omega arith)
+get_or-map m (p ∷ ps) zero h = refl
+get_or-map m (p ∷ ps) (suc k) h = get_or-map m ps k (omega arith)
 
 -- where the digits of the bytes at ks stand in the text
 abbrev spread : List ℕ → List ℕ
@@ -164,7 +164,7 @@ spread (k ∷ ks) = get_or uuid_places k 0 ∷ suc (get_or uuid_places k 0) ∷ 
 module _ (t : List ℕ) (h : T (is_uuid t)) where
   pair_back : (k : ℕ) → k < 16 → (upper_hex (get_or (uuid_bytes t) k 0 / 16) ≡ raise (char t (get_or uuid_places k 0))) × (upper_hex (get_or (uuid_bytes t) k 0 % 16) ≡ raise (char t (suc (get_or uuid_places k 0))))
   unfolding uuid_bytes
-  pair_back k l = halves (char t (get_or uuid_places k 0)) (char t (suc (get_or uuid_places k 0))) (get_d_map (pair_byte t) uuid_places k l) (pair_at t h k l)
+  pair_back k l = halves (char t (get_or uuid_places k 0)) (char t (suc (get_or uuid_places k 0))) (get_or-map (pair_byte t) uuid_places k l) (pair_at t h k l)
     where
       halves : (a b : ℕ) {x : ℕ} → x ≡ 16 * hex_digit a + hex_digit b → T (is_hex a && is_hex b) → (upper_hex (x / 16) ≡ raise a) × (upper_hex (x % 16) ≡ raise b)
       halves a b {x} e p =

@@ -1,4 +1,6 @@
 -- `reader::read` meets its contract: the arity file, the table, and then its terms. Assumes nothing.
+use mathlib.Core.Path.{ap}
+use mathlib.Core.Bool.{not}
 use native.Mathlib.Omega.{arith}
 use Rattle.term.specs.FileLaws.{layout-within}
 use Rattle.reader.specs.ReaderLaws.{read_unlaid, read-records, read_unfit, read_unframed, read_ready, read-on}
@@ -31,7 +33,7 @@ slice_bounds-pool-start c = omega (arith, layout-within c.args.file.now c.lay_ou
 
 pub returns-then-not-arities_fit : goal.returns-then-not-arities_fit
 returns-then-not-arities_fit c =
-    read_unfit _ _ _ c.lay_out-l.ensures (search) c.get_le.ensures (search) c.arities_fit.ensures c.if-not-arities_fit.true c.refused-then-not-arities_fit.ensures
+    read_unfit _ _ _ c.lay_out-l.ensures (search) c.get_le.ensures (search) c.arities_fit.ensures (ap not c.if-not-arities_fit.true) c.refused-then-not-arities_fit.ensures
 
 pub returns-then-number-ne0 : goal.returns-then-number-ne0
 returns-then-number-ne0 c =

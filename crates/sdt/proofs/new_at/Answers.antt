@@ -14,36 +14,36 @@ returns-then-number-ne0 c =
 
 pub put_header-at-requires : goal.put_header-at-requires
 put_header-at-requires c =
-    (c.id-1.given.0, writing_fits (new_start c.args.identity.now c.args.length c.args.t c.args.buffer.now c.if-length-lt36.false (size_none c.args.length (length c.args.buffer.now) c.size_number-number.ensures) c.if-number-ne0.false c.id-1.given.0))
+    (c.id-1.given, writing_fits (new_start c.args.identity.now c.args.length c.args.t c.args.buffer.now c.if-length-lt36.false (size_none c.args.length (length c.args.buffer.now) c.size_number-number.ensures) c.if-number-ne0.false c.id-1.given))
 
 pub overflow_add-at : goal.overflow_add-at
 overflow_add-at c =
-    omega (arith, (writing_next (new_start c.args.identity.now c.args.length c.args.t c.args.buffer.now c.if-length-lt36.false (size_none c.args.length (length c.args.buffer.now) c.size_number-number.ensures) c.if-number-ne0.false c.id-1.given.0) c.put_header-at.ensures), (size_zero (size_none c.args.length (length c.args.buffer.now) c.size_number-number.ensures) c.if-number-ne0.false))
+    omega (arith, (writing_next (new_start c.args.identity.now c.args.length c.args.t c.args.buffer.now c.if-length-lt36.false (size_none c.args.length (length c.args.buffer.now) c.size_number-number.ensures) c.if-number-ne0.false c.id-1.given) c.put_header-at.ensures), (size_zero (size_none c.args.length (length c.args.buffer.now) c.size_number-number.ensures) c.if-number-ne0.false))
 
 pub slice_bounds-put_zeros-count : goal.slice_bounds-put_zeros-count
 slice_bounds-put_zeros-count c =
-    writing_within (writing_next (new_start c.args.identity.now c.args.length c.args.t c.args.buffer.now c.if-length-lt36.false (size_none c.args.length (length c.args.buffer.now) c.size_number-number.ensures) c.if-number-ne0.false c.id-1.given.0) c.put_header-at.ensures)
+    writing_within (writing_next (new_start c.args.identity.now c.args.length c.args.t c.args.buffer.now c.if-length-lt36.false (size_none c.args.length (length c.args.buffer.now) c.size_number-number.ensures) c.if-number-ne0.false c.id-1.given) c.put_header-at.ensures)
 
 pub slice_bounds-put_zeros-start : goal.slice_bounds-put_zeros-start
 slice_bounds-put_zeros-start c =
-    writing_within (writing_next (new_start c.args.identity.now c.args.length c.args.t c.args.buffer.now c.if-length-lt36.false (size_none c.args.length (length c.args.buffer.now) c.size_number-number.ensures) c.if-number-ne0.false c.id-1.given.0) c.put_header-at.ensures)
+    writing_within (writing_next (new_start c.args.identity.now c.args.length c.args.t c.args.buffer.now c.if-length-lt36.false (size_none c.args.length (length c.args.buffer.now) c.size_number-number.ensures) c.if-number-ne0.false c.id-1.given) c.put_header-at.ensures)
 
 pub put_zeros-at-requires : goal.put_zeros-at-requires
 put_zeros-at-requires c =
-    writing_fits (writing_next (new_start c.args.identity.now c.args.length c.args.t c.args.buffer.now c.if-length-lt36.false (size_none c.args.length (length c.args.buffer.now) c.size_number-number.ensures) c.if-number-ne0.false c.id-1.given.0) c.put_header-at.ensures)
+    writing_fits (writing_next (new_start c.args.identity.now c.args.length c.args.t c.args.buffer.now c.if-length-lt36.false (size_none c.args.length (length c.args.buffer.now) c.size_number-number.ensures) c.if-number-ne0.false c.id-1.given) c.put_header-at.ensures)
 
 pub overflow_add-at-2 : goal.overflow_add-at-2
 overflow_add-at-2 c =
-    omega (arith, (writing_next (writing_next (new_start c.args.identity.now c.args.length c.args.t c.args.buffer.now c.if-length-lt36.false (size_none c.args.length (length c.args.buffer.now) c.size_number-number.ensures) c.if-number-ne0.false c.id-1.given.0) c.put_header-at.ensures) c.put_zeros-at.ensures))
+    omega (arith, (writing_next (writing_next (new_start c.args.identity.now c.args.length c.args.t c.args.buffer.now c.if-length-lt36.false (size_none c.args.length (length c.args.buffer.now) c.size_number-number.ensures) c.if-number-ne0.false c.id-1.given) c.put_header-at.ensures) c.put_zeros-at.ensures))
 
 pub slice_bounds-update_checksum-end : goal.slice_bounds-update_checksum-end
 slice_bounds-update_checksum-end c =
-    omega (arith, writing_same (writing_next (writing_next (new_start c.args.identity.now c.args.length c.args.t c.args.buffer.now c.if-length-lt36.false (size_none c.args.length (length c.args.buffer.now) c.size_number-number.ensures) c.if-number-ne0.false c.id-1.given.0) c.put_header-at.ensures) c.put_zeros-at.ensures), (size_zero (size_none c.args.length (length c.args.buffer.now) c.size_number-number.ensures) c.if-number-ne0.false).1)
+    omega (arith, writing_same (writing_next (writing_next (new_start c.args.identity.now c.args.length c.args.t c.args.buffer.now c.if-length-lt36.false (size_none c.args.length (length c.args.buffer.now) c.size_number-number.ensures) c.if-number-ne0.false c.id-1.given) c.put_header-at.ensures) c.put_zeros-at.ensures), (size_zero (size_none c.args.length (length c.args.buffer.now) c.size_number-number.ensures) c.if-number-ne0.false).1)
 
 pub update_checksum-table-requires : goal.update_checksum-table-requires
 update_checksum-table-requires c =
-    (rw length-take (omega (arith, writing_same (writing_next (writing_next (new_start c.args.identity.now c.args.length c.args.t c.args.buffer.now c.if-length-lt36.false (size_none c.args.length (length c.args.buffer.now) c.size_number-number.ensures) c.if-number-ne0.false c.id-1.given.0) c.put_header-at.ensures) c.put_zeros-at.ensures), (size_zero (size_none c.args.length (length c.args.buffer.now) c.size_number-number.ensures) c.if-number-ne0.false).1, c.if-length-lt36.false)), rw length-take (omega (arith, (size_zero (size_none c.args.length (length c.args.buffer.now) c.size_number-number.ensures) c.if-number-ne0.false).0)))
+    (rw length-take (omega (arith, writing_same (writing_next (writing_next (new_start c.args.identity.now c.args.length c.args.t c.args.buffer.now c.if-length-lt36.false (size_none c.args.length (length c.args.buffer.now) c.size_number-number.ensures) c.if-number-ne0.false c.id-1.given) c.put_header-at.ensures) c.put_zeros-at.ensures), (size_zero (size_none c.args.length (length c.args.buffer.now) c.size_number-number.ensures) c.if-number-ne0.false).1, c.if-length-lt36.false)), rw length-take (omega (arith, (size_zero (size_none c.args.length (length c.args.buffer.now) c.size_number-number.ensures) c.if-number-ne0.false).0)))
 
 pub returns : goal.returns
 returns c =
-    new_done _ _ _ _ (search) (size_none c.args.length (length c.args.buffer.now) c.size_number-number.ensures) (search) (search) (writing_next (writing_next (new_start c.args.identity.now c.args.length c.args.t c.args.buffer.now c.if-length-lt36.false (size_none c.args.length (length c.args.buffer.now) c.size_number-number.ensures) c.if-number-ne0.false c.id-1.given.0) c.put_header-at.ensures) c.put_zeros-at.ensures) (c.update_checksum-table.ensures)
+    new_done _ _ _ _ (search) (size_none c.args.length (length c.args.buffer.now) c.size_number-number.ensures) (search) (search) (writing_next (writing_next (new_start c.args.identity.now c.args.length c.args.t c.args.buffer.now c.if-length-lt36.false (size_none c.args.length (length c.args.buffer.now) c.size_number-number.ensures) c.if-number-ne0.false c.id-1.given) c.put_header-at.ensures) c.put_zeros-at.ensures) (c.update_checksum-table.ensures)

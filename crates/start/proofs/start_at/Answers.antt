@@ -13,7 +13,7 @@ returns-then-j-ge57 c = start_unknown _ _ c.kind_at.ensures c.position_of-j.ensu
 
 pub returns-then-not-may_stand : goal.returns-then-not-may_stand
 returns-then-not-may_stand c =
-    start_misplaced _ _ c.kind_at.ensures c.position_of-j.ensures c.if-j-ge57.false c.row_at-row.ensures (sym (not-true _ c.if-not-may_stand.true) ∙ c.may_stand.ensures)
+    start_misplaced _ _ c.kind_at.ensures c.position_of-j.ensures c.if-j-ge57.false c.row_at-row.ensures (sym c.if-not-may_stand.true ∙ c.may_stand.ensures)
 
 pub is_opcode-requires : goal.is_opcode-requires
 is_opcode-requires c =
@@ -21,8 +21,8 @@ is_opcode-requires c =
 
 pub returns-then-is_opcode : goal.returns-then-is_opcode
 returns-then-is_opcode c =
-    start-found _ _ c.kind_at.ensures c.position_of-j.ensures c.if-j-ge57.false c.row_at-row.ensures (sym (not-false _ c.if-not-may_stand.false) ∙ c.may_stand.ensures) (sym c.if-is_opcode.true ∙ c.is_opcode.ensures)
+    start-found _ _ c.kind_at.ensures c.position_of-j.ensures c.if-j-ge57.false c.row_at-row.ensures (sym c.if-not-may_stand.false ∙ c.may_stand.ensures) (sym c.if-is_opcode.true ∙ c.is_opcode.ensures)
 
 pub returns : goal.returns
 returns c =
-    start-other _ _ c.kind_at.ensures c.position_of-j.ensures c.if-j-ge57.false c.row_at-row.ensures (sym (not-false _ c.if-not-may_stand.false) ∙ c.may_stand.ensures) (sym c.if-is_opcode.false ∙ c.is_opcode.ensures)
+    start-other _ _ c.kind_at.ensures c.position_of-j.ensures c.if-j-ge57.false c.row_at-row.ensures (sym c.if-not-may_stand.false ∙ c.may_stand.ensures) (sym c.if-is_opcode.false ∙ c.is_opcode.ensures)

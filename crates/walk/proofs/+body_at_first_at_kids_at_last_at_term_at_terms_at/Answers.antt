@@ -1,5 +1,7 @@
 -- `walk::term_at` and the five functions that it and its parts call meet their contracts, with the levels falling (laws in `Cycle`, the
 -- loop's in `Loop`). Assumes nothing.
+use mathlib.Core.Path.{ap}
+use mathlib.Core.Bool.{not}
 use mathlib.Core.Path.{refl, sym, ◌∙◌}
 use native.Mathlib.Omega.{arith}
 use lib.ListN.{drop}
@@ -47,11 +49,11 @@ first_at-shape_of-out-then-not-w t c = c.kids_at-w.ensures.0.same
 
 pub first_at-returns-then-not-w : goal.first_at-returns-then-not-w
 first_at-returns-then-not-w t c =
-    first_unkept _ _ _ c.requires.1.1 _ c.requires.1.0 _ _ (taken c.in-Some.is c.fields_at.ensures) c.args_for-args.ensures c.kids_at-w.ensures c.if-not-w.true
+    first_unkept _ _ _ c.requires.1.1 _ c.requires.1.0 _ _ (taken c.in-Some.is c.fields_at.ensures) c.args_for-args.ensures c.kids_at-w.ensures (ap not c.if-not-w.true)
 
 pub first_at-above-requires : goal.first_at-above-requires
 first_at-above-requires t c =
-    first-few _ _ _ c.requires.1.1 _ c.requires.1.0 _ _ (taken c.in-Some.is c.fields_at.ensures) c.args_for-args.ensures c.kids_at-w.ensures c.if-not-w.false
+    first-few _ _ _ c.requires.1.1 _ c.requires.1.0 _ _ (taken c.in-Some.is c.fields_at.ensures) c.args_for-args.ensures c.kids_at-w.ensures (ap not c.if-not-w.false)
 
 pub first_at-shape_of-out : goal.first_at-shape_of-out
 first_at-shape_of-out t c = c.place_record.ensures.same ∙ c.kids_at-w.ensures.0.same
@@ -89,11 +91,11 @@ pub last_at-shape_of-out-then-not-w : goal.last_at-shape_of-out-then-not-w
 last_at-shape_of-out-then-not-w t c = c.kids_at-w.ensures.0.same
 
 pub last_at-returns-then-not-w : goal.last_at-returns-then-not-w
-last_at-returns-then-not-w t c = last_unkept _ _ _ c.requires.1.1 _ c.requires.1.0 _ _ c.kids_at-w.ensures c.if-not-w.true
+last_at-returns-then-not-w t c = last_unkept _ _ _ c.requires.1.1 _ c.requires.1.0 _ _ c.kids_at-w.ensures (ap not c.if-not-w.true)
 
 pub last_at-fields_at-requires : goal.last_at-fields_at-requires
 last_at-fields_at-requires t c =
-    (row-short _ (normal-row _ c.requires.1.1.found), last_within _ _ c.args.place c.requires.1.1 _ c.requires.1.0 _ _ c.kids_at-w.ensures c.if-not-w.false)
+    (row-short _ (normal-row _ c.requires.1.1.found), last_within _ _ c.args.place c.requires.1.1 _ c.requires.1.0 _ _ c.kids_at-w.ensures (ap not c.if-not-w.false))
 
 pub last_at-above-requires : goal.last_at-above-requires
 last_at-above-requires t c =
@@ -161,11 +163,11 @@ terms_at-shape_of-out-then-not-w t c = c.term_at-w.ensures.0.same ∙ c.loop-row
 
 pub terms_at-returns-then-not-w : goal.terms_at-returns-then-not-w
 terms_at-returns-then-not-w t c =
-    (turning_bad _ _ _ c.loop-row.invariant (sym c.is_more.ensures ∙ c.loop-row-test.true) (rw c.child_place-place.ensures at c.term_at-w.ensures.0) (not-true _ c.if-not-w.true), spans_bad (not-true _ c.if-not-w.true))
+    (turning_bad _ _ _ c.loop-row.invariant (sym c.is_more.ensures ∙ c.loop-row-test.true) (rw c.child_place-place.ensures at c.term_at-w.ensures.0) c.if-not-w.true, spans_bad c.if-not-w.true)
 
 pub terms_at-overflow_add-records : goal.terms_at-overflow_add-records
 terms_at-overflow_add-records t c =
-    omega (arith, c.loop-row.invariant.few, c.term_at-w.ensures.1.few (not-false _ c.if-not-w.false), (c.term_at-w.ensures.0.good (not-false _ c.if-not-w.false)).high, c.requires.1.0.most)
+    omega (arith, c.loop-row.invariant.few, c.term_at-w.ensures.1.few c.if-not-w.false, (c.term_at-w.ensures.0.good c.if-not-w.false).high, c.requires.1.0.most)
 
 pub terms_at-overflow_add-texts : goal.terms_at-overflow_add-texts
 terms_at-overflow_add-texts t c =
