@@ -1,8 +1,13 @@
 // Runs `check` on the term files that standard input describes, a line each (crate `described`), and prints the line's name, the
 // number and the record; then on two files of many arity entries.
 use described::{byte_at, huge_buffer, name_end, put, put_file};
-use libc::{STDIN_FILENO, STDOUT_FILENO};
 use std::num::{wrapping_add_usize, wrapping_sub_usize};
+
+// Standard input.
+const STDIN_FILENO: i32 = 0;
+
+// Standard output.
+const STDOUT_FILENO: i32 = 1;
 
 fn text(s: &[u8]) {
     io::write_all(STDOUT_FILENO, s);

@@ -4,6 +4,12 @@ ghost use Rattle.std.specs.Prelude.{◌≡◌, ◌≤◌, length};
 ghost use Rattle.octets.specs.Filling.{Wrote};
 ghost use Rattle.encode_main.specs.Program.{decimal, refused_line, line_of, program_of};
 
+// Standard input.
+const STDIN_FILENO: i32 = 0;
+
+// Standard output.
+const STDOUT_FILENO: i32 = 1;
+
 fn put_decimal(n: u64, out: &mut [u8]) -> usize
     requires { length (decimal n) ≤ length out.old }
     ensures { Wrote (decimal n) out.old out.new result }
@@ -62,8 +68,8 @@ fn buffer() -> [u8; 65537]
 
 fn main() {
     let mut input = buffer();
-    let n = io::read_full(libc::STDIN_FILENO, &mut input);
+    let n = io::read_full(STDIN_FILENO, &mut input);
     let mut out = io::large_buffer();
     let k = answer(&input[..n], &mut out);
-    io::write_all(libc::STDOUT_FILENO, &out[0..k]);
+    io::write_all(STDOUT_FILENO, &out[0..k]);
 }

@@ -1,8 +1,10 @@
 // Runs the leaves on document 01's examples and on the limits around them, and prints what they give: a line each.
 // What is written is read back; what is longer than it has to be must be read as none.
 use ident::{EISAName, Made};
-use libc::STDOUT_FILENO;
 use octets::Num;
+
+// Standard output.
+const STDOUT_FILENO: i32 = 1;
 
 fn text(s: &[u8]) {
     io::write_all(STDOUT_FILENO, s);

@@ -1,9 +1,11 @@
 // Runs `normalise` on the term files that standard input describes, a line each (crate `described`), and prints the answer and the
 // normal-form file; then whether that file is its own normal form and encodes as the first one does, and the call in less room.
 use described::{byte_at, huge_buffer, name_end, put_file};
-use libc::STDIN_FILENO;
 use shown::{answer, bytes_in, decimal, fill, front, holds, name, text};
 use std::num::{wrapping_add_usize, wrapping_sub_usize};
+
+// Standard input.
+const STDIN_FILENO: i32 = 0;
 
 // ── A call
 

@@ -2,8 +2,10 @@
 // Each line is a call, its number, the record and every byte of the buffer as they are left.
 ghost use Rattle.sdt.specs.Edit.{new_of, append_of, write_of, Left};
 
-use libc::STDOUT_FILENO;
 use sdt::{Edit, Sdt};
+
+// Standard output.
+const STDOUT_FILENO: i32 = 1;
 
 // ── A record of its own, lent to the call
 
