@@ -24,4 +24,4 @@ returns-in-FieldFlags c = rw c.in-FieldFlags.is c.flags_fit.ensures
 
 pub returns-in_default : goal.returns-in_default
 unfolding form_fits
-returns-in_default c = other c.args.numbers _ λ e. miss (0 ∷ 1 ∷ 2 ∷ 4 ∷ 5 ∷ []) 3 tt (rw e at c.in_default.in_default-own.keys2)
+returns-in_default c = other c.args.numbers _ c.in_default.not-FieldFlags

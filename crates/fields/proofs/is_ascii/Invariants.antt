@@ -1,5 +1,6 @@
 use Prim.Native.Nat.{◌-◌}
 use lib.ListN.{length}
+use Rattle.fields.proofs.Looking.{Looking}
 use Rattle.fields.proofs.is_ascii.Given as goal
 
 abbrev pub invariant-loop-i : goal.invariant-loop-i

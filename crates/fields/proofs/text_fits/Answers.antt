@@ -30,5 +30,4 @@ returns-in-DescriptorText c = rw c.in-DescriptorText.is c.descriptor_in_range.en
 
 pub returns-in_default : goal.returns-in_default
 unfolding text_fits
-returns-in_default c =
-    other c.args.text _ _ _ _ (λ e. miss (1 ∷ 2 ∷ 3 ∷ 4 ∷ 5 ∷ 6 ∷ []) 0 tt (rw e at c.in_default.in_default-own.keys3)) λ e. miss (1 ∷ 2 ∷ 3 ∷ 4 ∷ 5 ∷ 6 ∷ []) 7 tt (rw e at c.in_default.in_default-own.keys3)
+returns-in_default c = other c.args.text _ _ _ _ c.in_default.not-Unused c.in_default.not-DescriptorText
