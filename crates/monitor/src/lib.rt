@@ -1,5 +1,6 @@
-// The C face, for a Rust or C program that links the static library: the calls of the crates below, on byte slices and numbers.
-// A symbol named `read` or `write` would take the C library's place, so each name has the prefix `acpi_`.
+// The C face, for a Rust or C program that links the static library (crate `monitor_c`, which exports these functions): the calls of
+// the crates below, on byte slices and numbers. A symbol named `read` or `write` would take the C library's place, so each name has
+// the prefix `acpi_`.
 ghost use Rattle.std.specs.Prelude.{◌≡◌, ◌<◌};
 ghost use Rattle.checker.specs.Refusal.{refusal_of};
 ghost use Rattle.sdt.specs.Edit.{new_of, append_of, write_of, Left};
@@ -48,30 +49,26 @@ fn edited(e: sdt::Edit) -> AcpiEdit
 
 // ── Term files
 
-#[unsafe(no_mangle)]
-pub extern "C" fn acpi_encode(file: &[u8], out: &mut [u8]) -> AcpiAnswer
+pub fn acpi_encode(file: &[u8], out: &mut [u8]) -> AcpiAnswer
     ensures { Faced result out.new (encode_of file.now out.old) }
 {
     faced(encode::encode(file, out))
 }
 
-#[unsafe(no_mangle)]
-pub extern "C" fn acpi_read(arities: &[u8], table: &[u8], out: &mut [u8]) -> AcpiAnswer
+pub fn acpi_read(arities: &[u8], table: &[u8], out: &mut [u8]) -> AcpiAnswer
     ensures { Faced result out.new (read_of arities.now table.now out.old) }
 {
     faced(reader::read(arities, table, out))
 }
 
-#[unsafe(no_mangle)]
-pub extern "C" fn acpi_normalise(file: &[u8], out: &mut [u8]) -> AcpiAnswer
+pub fn acpi_normalise(file: &[u8], out: &mut [u8]) -> AcpiAnswer
     ensures { Faced result out.new (normalise_of file.now out.old) }
 {
     faced(normalise::normalise(file, out))
 }
 
 // Refusals 1 to 10; the length is 0.
-#[unsafe(no_mangle)]
-pub extern "C" fn acpi_check(file: &[u8]) -> AcpiAnswer
+pub fn acpi_check(file: &[u8]) -> AcpiAnswer
     ensures { result ≡ face_of (verdict_of (refusal_of file.now)) }
 {
     let v = checker::check(file);
@@ -84,8 +81,7 @@ pub extern "C" fn acpi_check(file: &[u8]) -> AcpiAnswer
 
 // ── The growing table
 
-#[unsafe(no_mangle)]
-pub extern "C" fn acpi_new(identity: &[u8; 31], length: u32, buffer: &mut [u8]) -> AcpiEdit
+pub fn acpi_new(identity: &[u8; 31], length: u32, buffer: &mut [u8]) -> AcpiEdit
     ensures { Left (edit_of result) buffer.new (new_of identity.now length (record_of 0 0) buffer.old) }
 {
     let t = sdt::Sdt {
@@ -95,8 +91,7 @@ pub extern "C" fn acpi_new(identity: &[u8; 31], length: u32, buffer: &mut [u8]) 
     edited(sdt::new_at(t, identity, length, buffer))
 }
 
-#[unsafe(no_mangle)]
-pub extern "C" fn acpi_append(
+pub fn acpi_append(
     buffer: &mut [u8],
     length: u32,
     checksum: u8,
@@ -108,8 +103,7 @@ pub extern "C" fn acpi_append(
     edited(sdt::append_at(t, buffer, piece))
 }
 
-#[unsafe(no_mangle)]
-pub extern "C" fn acpi_write(
+pub fn acpi_write(
     buffer: &mut [u8],
     length: u32,
     checksum: u8,

@@ -4,9 +4,6 @@ use Rattle.octets.specs.Filling.{writing_fits, writing_next, writing_within, wri
 use Rattle.encode.specs.TableLaws.{table-start, table-room}
 use Rattle.encode.proofs.put_opened.Goals as goal
 
-abbrev at_start₁ : tie.After-write-in → tie.Start
-at_start₁ c = c.before.before.before.before.before.before.before.before.before.before.before.before
-
 pub put_header-at-requires : goal.put_header-at-requires
 put_header-at-requires c = (c.requires.2.own, writing_fits (table-start c.requires.2))
 
@@ -25,7 +22,7 @@ write_in-done-requires c =
 
 pub overflow_add-at-2 : goal.overflow_add-at-2
 overflow_add-at-2 c =
-    let at-start = at_start₁ (search) in omega (arith, (writing_next (writing_next (table-start c.requires.2) c.put_header-at.ensures) c.write_in-done.ensures.0.wrote))
+    omega (arith, (writing_next (writing_next (table-start c.requires.2) c.put_header-at.ensures) c.write_in-done.ensures.0.wrote))
 
 pub shape_of-out : goal.shape_of-out
 shape_of-out c =

@@ -4,15 +4,6 @@ use Rattle.octets.specs.Filling.{writing_fits, writing_next, writing_within, wri
 use Rattle.normalise.specs.SectionLaws.{file-start, names_most, all_most}
 use Rattle.normalise.proofs.put_file.Goals as goal
 
-abbrev at_start₁ : tie.After-put-entries → tie.Start
-at_start₁ c = c.before.before.before.before.before.before.before.before.before.before.before.before.before.before.before
-
-abbrev at-start₂ : tie.After-put-texts → tie.Start
-at-start₂ c = at_start₁ c.before.before.before.before
-
-abbrev at_start₃ : tie.After-put-texts2 → tie.Start
-at_start₃ c = at-start₂ c.before.before.before.before
-
 pub overflow_add-names : goal.overflow_add-names
 overflow_add-names c = omega (arith, names_most c.requires.sections c.requires.named, all_most c.requires.sections c.requires.texted)
 
@@ -49,7 +40,7 @@ put_entries-at-requires c =
 
 pub overflow_add-at-3 : goal.overflow_add-at-3
 overflow_add-at-3 c =
-    let at-start = at_start₁ (search) in omega (arith, (writing_next (writing_next (writing_next (file-start c.requires) c.put_header-at.ensures) c.put_records-at.ensures) c.put_entries-at.ensures))
+    omega (arith, (writing_next (writing_next (writing_next (file-start c.requires) c.put_header-at.ensures) c.put_records-at.ensures) c.put_entries-at.ensures))
 
 pub slice_bounds-put_texts-count : goal.slice_bounds-put_texts-count
 slice_bounds-put_texts-count c =
@@ -65,7 +56,7 @@ put_texts-at-requires c =
 
 pub overflow_add-at-4 : goal.overflow_add-at-4
 overflow_add-at-4 c =
-    let at-start = at-start₂ (search) in omega (arith, (writing_next (writing_next (writing_next (writing_next (file-start c.requires) c.put_header-at.ensures) c.put_records-at.ensures) c.put_entries-at.ensures) c.put_texts-at.ensures))
+    omega (arith, (writing_next (writing_next (writing_next (writing_next (file-start c.requires) c.put_header-at.ensures) c.put_records-at.ensures) c.put_entries-at.ensures) c.put_texts-at.ensures))
 
 pub slice_bounds-put_texts-count-2 : goal.slice_bounds-put_texts-count-2
 slice_bounds-put_texts-count-2 c =
@@ -77,11 +68,11 @@ slice_bounds-put_texts-start-2 c =
 
 pub put_texts-at-requires-2 : goal.put_texts-at-requires-2
 put_texts-at-requires-2 c =
-    let at-start = at-start₂ (search) in (at-start.pre.sections.sound, at-start.pre.slender, writing_fits (writing_next (writing_next (writing_next (writing_next (file-start c.requires) c.put_header-at.ensures) c.put_records-at.ensures) c.put_entries-at.ensures) c.put_texts-at.ensures))
+    (c.requires.sections.sound, c.requires.slender, writing_fits (writing_next (writing_next (writing_next (writing_next (file-start c.requires) c.put_header-at.ensures) c.put_records-at.ensures) c.put_entries-at.ensures) c.put_texts-at.ensures))
 
 pub overflow_add-at-5 : goal.overflow_add-at-5
 overflow_add-at-5 c =
-    let at-start = at_start₃ (search) in omega (arith, (writing_next (writing_next (writing_next (writing_next (writing_next (file-start c.requires) c.put_header-at.ensures) c.put_records-at.ensures) c.put_entries-at.ensures) c.put_texts-at.ensures) c.put_texts-at-2.ensures))
+    omega (arith, (writing_next (writing_next (writing_next (writing_next (writing_next (file-start c.requires) c.put_header-at.ensures) c.put_records-at.ensures) c.put_entries-at.ensures) c.put_texts-at.ensures) c.put_texts-at-2.ensures))
 
 pub shape_of-out : goal.shape_of-out
 shape_of-out c =

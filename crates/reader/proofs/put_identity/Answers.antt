@@ -4,9 +4,6 @@ use Rattle.octets.specs.Filling.{writing_fits, writing_next, writing_within, wri
 use Rattle.reader.specs.ReaderLaws.{identity-start}
 use Rattle.reader.proofs.put_identity.Goals as goal
 
-abbrev at_start₁ : tie.After-put-slice3 → tie.Start
-at_start₁ c = c.before.before.before.before.before.before.before.before.before.before.before.before.before.before.before
-
 pub put_slice-at-requires : goal.put_slice-at-requires
 put_slice-at-requires c = writing_fits (identity-start c.args.table.now c.args.out.now c.requires.1)
 
@@ -42,7 +39,7 @@ put_slice-at-requires-3 c =
 
 pub overflow_add-at-3 : goal.overflow_add-at-3
 overflow_add-at-3 c =
-    let at-start = at_start₁ (search) in omega (arith, (writing_next (writing_next (writing_next (identity-start c.args.table.now c.args.out.now c.requires.1) c.put_slice-at.ensures) c.put_slice-at-2.ensures) c.put_slice-at-3.ensures))
+    omega (arith, (writing_next (writing_next (writing_next (identity-start c.args.table.now c.args.out.now c.requires.1) c.put_slice-at.ensures) c.put_slice-at-2.ensures) c.put_slice-at-3.ensures))
 
 pub shape_of-out : goal.shape_of-out
 shape_of-out c =

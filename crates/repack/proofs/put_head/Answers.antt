@@ -4,9 +4,6 @@ use Rattle.octets.specs.Filling.{writing_fits, writing_next, writing_within, wri
 use Rattle.repack.specs.PackLaws.{head-start}
 use Rattle.repack.proofs.put_head.Goals as goal
 
-abbrev at_start₁ : tie.After-put-two3 → tie.Start
-at_start₁ c = c.before.before.before.before.before.before.before.before.before.before.before.before.before.before.before.before
-
 pub put_slice-at-requires : goal.put_slice-at-requires
 put_slice-at-requires c = writing_fits (head-start c.args.records c.args.arities c.args.pool c.args.out.now c.requires.2)
 
@@ -60,7 +57,7 @@ put_two-at-requires-3 c =
 
 pub overflow_add-at-4 : goal.overflow_add-at-4
 overflow_add-at-4 c =
-    let at-start = at_start₁ (search) in omega (arith, (writing_next (writing_next (writing_next (writing_next (head-start c.args.records c.args.arities c.args.pool c.args.out.now c.requires.2) c.put_slice-at.ensures) c.put_two-at.ensures) c.put_two-at-2.ensures) c.put_two-at-3.ensures))
+    omega (arith, (writing_next (writing_next (writing_next (writing_next (head-start c.args.records c.args.arities c.args.pool c.args.out.now c.requires.2) c.put_slice-at.ensures) c.put_two-at.ensures) c.put_two-at-2.ensures) c.put_two-at-3.ensures))
 
 pub shape_of-out : goal.shape_of-out
 shape_of-out c =

@@ -4,9 +4,6 @@ use Rattle.octets.specs.Filling.{writing_fits, writing_next, writing_within, wri
 use Rattle.repack.specs.PackLaws.{packed_start}
 use Rattle.repack.proofs.put_record.Goals as goal
 
-abbrev at_start₁ : tie.After-put-two2 → tie.Start
-at_start₁ c = c.before.before.before.before.before.before.before.before.before.before.before.before.before.before.before
-
 pub put_two-at-requires : goal.put_two-at-requires
 put_two-at-requires c = writing_fits (packed_start c.args.r c.args.out.now c.requires)
 
@@ -56,7 +53,7 @@ put_two-at-requires-2 c =
 
 pub overflow_add-at-4 : goal.overflow_add-at-4
 overflow_add-at-4 c =
-    let at-start = at_start₁ (search) in omega (arith, (writing_next (writing_next (writing_next (writing_next (packed_start c.args.r c.args.out.now c.requires) c.put_two-at.ensures) c.put_le-at.ensures) c.put_le-at-2.ensures) c.put_two-at-2.ensures))
+    omega (arith, (writing_next (writing_next (writing_next (writing_next (packed_start c.args.r c.args.out.now c.requires) c.put_two-at.ensures) c.put_le-at.ensures) c.put_le-at-2.ensures) c.put_two-at-2.ensures))
 
 pub shape_of-out : goal.shape_of-out
 shape_of-out c =

@@ -7,7 +7,6 @@ use Rattle.octets.specs.Filling.{Writing, writing_fits, writing_next, writing_wi
 use Rattle.grammar.specs.declared.Numbers.{Numbers}
 use Rattle.grammar.specs.declared.Row.{Row}
 use Rattle.grammar.specs.declared.Text.{Text}
-use Rattle.grammar.specs.Packed.{row_at}
 use Rattle.grammar.specs.Forest.{Fields}
 use Rattle.fields.specs.Written.{text_bytes, form_bytes, field_bytes}
 use Rattle.written.specs.Fine.{fields_of}
@@ -19,43 +18,34 @@ module _ {r : Row} {t : Text} {k : ℕ} {f : Numbers} (e : Columns r t k f) (v :
       → Writing (field_bytes r v) (text_bytes t k v ∷ form_bytes f v.a v.x ∷ []) 0 first first
   fields-start first room = two-start (text_bytes t k v) _ first (columns-bytes e v) room
 
-abbrev columns : (c : tie.After-numbers-at)
-    → Columns (row_at c.before.before.before.before.before.args.j) c.before.before.text_at.result c.before.kind_at.result c.numbers-at.result
-columns c = record { text = c.before.before.text_at.ensures; kind = c.before.kind_at.ensures; numbers = c.numbers-at.ensures }
-
-abbrev written : tie.Start → Fields
-written c = fields_of c.args.t.now c.args.a c.args.x
-
-abbrev start₂ : tie.After-put-form → tie.Start
-start₂ c = c.before.before.before.before.before.before.before.before.before.before.before
-
 pub put_text-at-requires : goal.put_text-at-requires
 put_text-at-requires c =
-    (writing_fits (fields-start (columns c) (written c) c.args.out.now c.requires.1), columns-text (columns (search)) (written c) c.requires.0, columns-spelled (columns (search)) (written c) c.requires.0)
+    (writing_fits (fields-start (record { text = c.text_at-text.ensures; kind = c.kind_at-kind.ensures; numbers = c.numbers_at-numbers.ensures }) (fields_of c.args.t.now c.args.a c.args.x) c.args.out.now c.requires.1), columns-text (record { text = c.text_at-text.ensures; kind = c.kind_at-kind.ensures; numbers = c.numbers_at-numbers.ensures }) (fields_of c.args.t.now c.args.a c.args.x) c.requires.0, columns-spelled (record { text = c.text_at-text.ensures; kind = c.kind_at-kind.ensures; numbers = c.numbers_at-numbers.ensures }) (fields_of c.args.t.now c.args.a c.args.x) c.requires.0)
 
 pub overflow_add-at : goal.overflow_add-at
-overflow_add-at c = omega (arith, (writing_next (fields-start (columns c) (written c) c.args.out.now c.requires.1) c.put_text-at.ensures))
+overflow_add-at c =
+    omega (arith, (writing_next (fields-start (record { text = c.text_at-text.ensures; kind = c.kind_at-kind.ensures; numbers = c.numbers_at-numbers.ensures }) (fields_of c.args.t.now c.args.a c.args.x) c.args.out.now c.requires.1) c.put_text-at.ensures))
 
 pub slice_bounds-put_form-count : goal.slice_bounds-put_form-count
 slice_bounds-put_form-count c =
-    writing_within (writing_next (fields-start (columns c) (written c) c.args.out.now c.requires.1) c.put_text-at.ensures)
+    writing_within (writing_next (fields-start (record { text = c.text_at-text.ensures; kind = c.kind_at-kind.ensures; numbers = c.numbers_at-numbers.ensures }) (fields_of c.args.t.now c.args.a c.args.x) c.args.out.now c.requires.1) c.put_text-at.ensures)
 
 pub slice_bounds-put_form-start : goal.slice_bounds-put_form-start
 slice_bounds-put_form-start c =
-    writing_within (writing_next (fields-start (columns c) (written c) c.args.out.now c.requires.1) c.put_text-at.ensures)
+    writing_within (writing_next (fields-start (record { text = c.text_at-text.ensures; kind = c.kind_at-kind.ensures; numbers = c.numbers_at-numbers.ensures }) (fields_of c.args.t.now c.args.a c.args.x) c.args.out.now c.requires.1) c.put_text-at.ensures)
 
 pub put_form-at-requires : goal.put_form-at-requires
 put_form-at-requires c =
-    (writing_fits (writing_next (fields-start (columns c) (written c) c.args.out.now c.requires.1) c.put_text-at.ensures), columns-narrow (columns (search)) (written c) c.requires.0)
+    (writing_fits (writing_next (fields-start (record { text = c.text_at-text.ensures; kind = c.kind_at-kind.ensures; numbers = c.numbers_at-numbers.ensures }) (fields_of c.args.t.now c.args.a c.args.x) c.args.out.now c.requires.1) c.put_text-at.ensures), columns-narrow (record { text = c.text_at-text.ensures; kind = c.kind_at-kind.ensures; numbers = c.numbers_at-numbers.ensures }) (fields_of c.args.t.now c.args.a c.args.x) c.requires.0)
 
 pub overflow_add-at-2 : goal.overflow_add-at-2
 overflow_add-at-2 c =
-    let s = start₂ (search) in omega (arith, (writing_next (writing_next (fields-start (columns c) (written c) c.args.out.now c.requires.1) c.put_text-at.ensures) c.put_form-at.ensures))
+    omega (arith, (writing_next (writing_next (fields-start (record { text = c.text_at-text.ensures; kind = c.kind_at-kind.ensures; numbers = c.numbers_at-numbers.ensures }) (fields_of c.args.t.now c.args.a c.args.x) c.args.out.now c.requires.1) c.put_text-at.ensures) c.put_form-at.ensures))
 
 pub shape_of-out : goal.shape_of-out
 shape_of-out c =
-    writing_same (writing_next (writing_next (fields-start (columns c) (written c) c.args.out.now c.requires.1) c.put_text-at.ensures) c.put_form-at.ensures)
+    writing_same (writing_next (writing_next (fields-start (record { text = c.text_at-text.ensures; kind = c.kind_at-kind.ensures; numbers = c.numbers_at-numbers.ensures }) (fields_of c.args.t.now c.args.a c.args.x) c.args.out.now c.requires.1) c.put_text-at.ensures) c.put_form-at.ensures)
 
 pub returns : goal.returns
 returns c =
-    writing_end (writing_next (writing_next (fields-start (columns c) (written c) c.args.out.now c.requires.1) c.put_text-at.ensures) c.put_form-at.ensures)
+    writing_end (writing_next (writing_next (fields-start (record { text = c.text_at-text.ensures; kind = c.kind_at-kind.ensures; numbers = c.numbers_at-numbers.ensures }) (fields_of c.args.t.now c.args.a c.args.x) c.args.out.now c.requires.1) c.put_text-at.ensures) c.put_form-at.ensures)

@@ -8,7 +8,7 @@ use Rattle.octets.specs.Filling.{wrote_as}
 use Rattle.grammar.specs.declared.Numbers.{Numbers}
 use Rattle.fields.specs.Written.{form_bytes}
 use Rattle.written.specs.Fine.{narrow}
-use Rattle.written.specs.FineLaws.{digits-held, flags-held, order-held, length-held}
+use Rattle.written.specs.FineLaws.{digits-held, flags-held, order-held, order-bytes, length-held}
 use Rattle.written.proofs.put_form.Goals as goal
 
 as_told : (a x : ℕ) {f g : Numbers} → f ≡ g → T (narrow f a x) → T (narrow g a x)
@@ -68,7 +68,8 @@ returns-in-MethodFlags c = rw c.in-MethodFlags.is c.put_le.ensures
 
 pub returns-in-LevelOrder : goal.returns-in-LevelOrder
 unfolding form_bytes le
-returns-in-LevelOrder c = rw c.in-LevelOrder.is (wrote_as (order_is (search)).holds c.put_le-in-LevelOrder.ensures)
+returns-in-LevelOrder c =
+    rw c.in-LevelOrder.is (wrote_as (order-bytes c.args.a c.args.x (as_told c.args.a c.args.x c.in-LevelOrder.is c.requires.1)) c.put_le-in-LevelOrder.ensures)
 
 pub returns-in-FieldFlags : goal.returns-in-FieldFlags
 unfolding form_bytes le
