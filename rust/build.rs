@@ -1,4 +1,4 @@
-//! Says where the static library stands: target/staticlib of the repository, as `rt staticlib monitor` leaves it,
+//! Says where the static library stands: target/staticlib of the repository, as `rust/library` leaves it,
 //! or the folder that the environment variable ACPI_MONITOR names.
 use std::{env, path::PathBuf};
 
@@ -10,7 +10,7 @@ fn main() {
     };
     let archive = dir.join("libmonitor.a");
     if !archive.is_file() {
-        println!("cargo:warning={} is not there: `rt staticlib monitor` makes it", archive.display());
+        println!("cargo:warning={} is not there: `rust/library` makes it", archive.display());
     }
     println!("cargo:rerun-if-changed={}", archive.display());
     println!("cargo:rustc-link-search=native={}", dir.display());

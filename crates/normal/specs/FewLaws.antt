@@ -12,7 +12,7 @@ use Rattle.grammar.specs.declared.Place.{Place}
 use Rattle.grammar.specs.declared.Text.{Text}
 use Rattle.grammar.specs.declared.Text.TheVariants.{Unused, PathText, SegmentText, Ascii, AnyBytes, EisaText, UuidText, DescriptorText}
 use Rattle.grammar.specs.declared.Row.{Row}
-use Rattle.grammar.specs.Kinds.{opcode, normal_kinds, find, row_in}
+use Rattle.grammar.specs.Kinds.{opcode, normal_kinds, find, row_in, row_of, child_place}
 use Rattle.grammar.specs.KindLaws.{every_row, found-rule}
 use Rattle.grammar.specs.Forest.{Fields, Forest, nil, node, count, flatten}
 use Rattle.fields.specs.Fields.{text_fits, in_range, text_spelled, spelled}
@@ -105,5 +105,5 @@ few-forest args place l j (node k v c s) h n =
     normal-found k (search (and_left, and_right)) λ r e.
     let fits : T (fine args r (place j) l v (count c)) = rw (normal-row k e) at h.0 in
     few-node k v c s e (search (and_left, and_right)) (search (and_left, and_right))
-    (few-forest args _ (l - 1) 0 c h.1 (search (and_left, and_right)))
+    (few-forest args (child_place (row_in (row_of k))) (l - 1) 0 c h.1 (search (and_left, and_right)))
     (few-forest args place l (suc j) s h.2 (search (and_left, and_right)))

@@ -113,7 +113,7 @@ unfolding term_texts records_written term_of text_of
 terms-back at [] h = refl
 terms-back at (t ∷ ts) h =
     let (h₁, h₂) = next-text t.fields.text (term_texts ts) h in
-    ap₂ (λ x r. x ∷ r) (rw (text-back t.fields.text h₁) refl) (terms-back _ ts h₂)
+    ap₂ (λ x r. x ∷ r) (rw (text-back t.fields.text h₁) refl) (terms-back (at + length t.fields.text) ts h₂)
 
 terms-inside : {pool : List ℕ} (at : ℕ) (ts : List Term) → Stands pool at (term_texts ts) → InPool pool (records_written at ts)
 unfolding term_texts records_written InPool in_pool
@@ -121,7 +121,7 @@ terms-inside at [] h = tt
 terms-inside {pool} at (t ∷ ts) h =
     let n = length t.fields.text in
     let (h₁, h₂) = next-text t.fields.text (term_texts ts) h in
-    (and_both (leb (start_of n at + n) (length pool)) (leb 1 n || eqb (start_of n at) 0) (text-inside t.fields.text h₁) (empty_start n at), terms-inside _ ts h₂)
+    (and_both (leb (start_of n at + n) (length pool)) (leb 1 n || eqb (start_of n at) 0) (text-inside t.fields.text h₁) (empty_start n at), terms-inside (at + n) ts h₂)
 
 -- ── Arity entries
 unfoldable entry_of : Arity → ℕ → Entry
@@ -168,7 +168,7 @@ unfolding arity_texts entries_written entry_of arity_in
 arities-back at [] h = refl
 arities-back at (a ∷ l) h =
     let (h₁, h₂) = next-text a.text (arity_texts l) h in
-    ap₂ (λ x r. x ∷ r) (rw (text-back a.text h₁) refl) (arities-back _ l h₂)
+    ap₂ (λ x r. x ∷ r) (rw (text-back a.text h₁) refl) (arities-back (at + length a.text) l h₂)
 
 entries_fit_lem : {pool : List ℕ} (at : ℕ) (l : List Arity) → Every Callable l → Stands pool at (arity_texts l) → T (entries_fit pool (entries_written at l))
 unfolding Every arity_texts entries_written entry_of entries_fit entry_fits
@@ -180,7 +180,7 @@ entries_fit_lem {pool} at (a ∷ l) z h =
     let path : T (is_path (text_at pool (start_of n at) n)) = rw (text-back a.text h₁) z.0.path in
     let low : T (leb 1 a.args) = le→leb 1 a.args z.0.low in
     let high : T (leb a.args 7) = le→leb a.args 7 z.0.high in
-    let rest : T (entries_fit pool (entries_written (at + n) l)) = entries_fit_lem _ l z.1 h₂ in
+    let rest : T (entries_fit pool (entries_written (at + n) l)) = entries_fit_lem (at + n) l z.1 h₂ in
     search and_both
 
 -- ── Whole sections: the records of terms whose texts stand in the pool behind `at` bytes

@@ -1,12 +1,12 @@
 -- A forest that may stand has numbers that fit their fields, so few conditions are left for a file of it to be writable.
 -- Assumes nothing.
-use Rattle.std.specs.Prelude.{◌≡◌, refl, Bool, ◌&&◌, List, [], ◌∷◌, ◌++◌, ℕ, suc, ◌+◌, ◌≤◌, ◌<◌, T, leb, length}
+use Rattle.std.specs.Prelude.{◌≡◌, refl, Bool, ◌&&◌, List, [], ◌∷◌, ◌++◌, ℕ, suc, ◌+◌, ◌-◌, ◌≤◌, ◌<◌, T, leb, length}
 use Rattle.std.proofs.Math.Option.{Option, none, some}
 use Rattle.std.proofs.Common.{arith, leb→le, length-append}
 use Rattle.octets.specs.Tests.{and_left, and_right}
 use Rattle.grammar.specs.declared.Place.{Place}
 use Rattle.grammar.specs.declared.Row.{Row}
-use Rattle.grammar.specs.Kinds.{normal_kinds, other_kinds, kinds, row_of}
+use Rattle.grammar.specs.Kinds.{normal_kinds, other_kinds, kinds, row_of, row_in, child_place}
 use Rattle.grammar.specs.KindLaws.{every_row, row-kind, rule}
 use Rattle.grammar.specs.Forest.{Fields, Forest, nil, node, count, flatten}
 use Rattle.grammar.specs.ForestLaws.{count_most}
@@ -50,7 +50,7 @@ fits-sizes args place l j nil m h = tt
 fits-sizes args place l j (node k v c s) m h =
     let e = length-append (flatten c) (flatten s) in (
       term-sizes args _ _ k v (count c) (omega (arith, count_most c)) h.0,
-      every_append TermSizes (flatten c) (flatten s) (fits-sizes args _ _ 0 c (omega arith) h.1) (fits-sizes args place l (suc j) s (omega arith) h.2),
+      every_append TermSizes (flatten c) (flatten s) (fits-sizes args (child_place (row_in (row_of k))) (l - 1) 0 c (omega arith) h.1) (fits-sizes args place l (suc j) s (omega arith) h.2),
     )
 
 -- and so a file of a forest that may stand is writable if identity, counts, arities and pool are
