@@ -78,7 +78,7 @@ write_node-write_kids-done-requires t c =
 
 pub write_node-overflow_add-at-2 : goal.write_node-overflow_add-at-2
 write_node-overflow_add-at-2 t c =
-    let at-start = node-start t c in omega (arith, (writing_next (writing_next (start-here (c.requires.0) (c.position_of-j.ensures) (c.text_at-text.ensures) (c.asked_size-size.ensures.0) (c.requires.2)) c.put_head-at.ensures) c.write_kids-done.ensures.0.wrote))
+    omega (arith, (writing_next (writing_next (start-here (c.requires.0) (c.position_of-j.ensures) (c.text_at-text.ensures) (c.asked_size-size.ensures.0) (c.requires.2)) c.put_head-at.ensures) c.write_kids-done.ensures.0.wrote))
 
 pub write_node-slice_bounds-put_behind-count : goal.write_node-slice_bounds-put_behind-count
 write_node-slice_bounds-put_behind-count t c =
@@ -90,11 +90,11 @@ write_node-slice_bounds-put_behind-start t c =
 
 pub write_node-put_behind-at-requires : goal.write_node-put_behind-at-requires
 write_node-put_behind-at-requires t c =
-    let k = asked₁ t (search) in (fine-here (c.requires.0) (c.position_of-j.ensures) (c.text_at-text.ensures), writing_fits (writing_next (writing_next (start-here (c.requires.0) (c.position_of-j.ensures) (c.text_at-text.ensures) (c.asked_size-size.ensures.0) (c.requires.2)) c.put_head-at.ensures) c.write_kids-done.ensures.0.wrote))
+    (fine-here (c.requires.0) (c.position_of-j.ensures) (c.text_at-text.ensures), writing_fits (writing_next (writing_next (start-here (c.requires.0) (c.position_of-j.ensures) (c.text_at-text.ensures) (c.asked_size-size.ensures.0) (c.requires.2)) c.put_head-at.ensures) c.write_kids-done.ensures.0.wrote))
 
 pub write_node-overflow_add-at-3 : goal.write_node-overflow_add-at-3
 write_node-overflow_add-at-3 t c =
-    let at-start = node-start t c in omega (arith, (writing_next (writing_next (writing_next (start-here (c.requires.0) (c.position_of-j.ensures) (c.text_at-text.ensures) (c.asked_size-size.ensures.0) (c.requires.2)) c.put_head-at.ensures) c.write_kids-done.ensures.0.wrote) c.put_behind-at.ensures))
+    omega (arith, (writing_next (writing_next (writing_next (start-here (c.requires.0) (c.position_of-j.ensures) (c.text_at-text.ensures) (c.asked_size-size.ensures.0) (c.requires.2)) c.put_head-at.ensures) c.write_kids-done.ensures.0.wrote) c.put_behind-at.ensures))
 
 pub write_node-shape_of-out : goal.write_node-shape_of-out
 write_node-shape_of-out t c =
@@ -102,7 +102,7 @@ write_node-shape_of-out t c =
 
 pub write_node-returns : goal.write_node-returns
 write_node-returns t c =
-    let k = asked₂ t (search) in (node-put _ _ _ _ (c.requires.0).level (c.requires.0).here (c.requires.0).is (writing_end (writing_next (writing_next (writing_next (start-here (c.requires.0) (c.position_of-j.ensures) (c.text_at-text.ensures) (c.asked_size-size.ensures.0) (c.requires.2)) c.put_head-at.ensures) c.write_kids-done.ensures.0.wrote) c.put_behind-at.ensures)) (c.write_kids-done.ensures).0, (c.write_kids-done.ensures).1)
+    (node-put _ _ _ _ (c.requires.0).level (c.requires.0).here (c.requires.0).is (writing_end (writing_next (writing_next (writing_next (start-here (c.requires.0) (c.position_of-j.ensures) (c.text_at-text.ensures) (c.asked_size-size.ensures.0) (c.requires.2)) c.put_head-at.ensures) c.write_kids-done.ensures.0.wrote) c.put_behind-at.ensures)) (c.write_kids-done.ensures).0, (c.write_kids-done.ensures).1)
 
 pub write_term-returns-then-levels-eq0 : goal.write_term-returns-then-levels-eq0
 write_term-returns-then-levels-eq0 t c = (put-none _ (none-measured _ _ _ _ c.if-levels-eq0.true), c.requires.2)
