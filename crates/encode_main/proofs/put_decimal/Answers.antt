@@ -6,8 +6,8 @@ use Rattle.encode_main.proofs.put_decimal.Goals as goal
 
 pub put_slice-requires : goal.put_slice-requires
 put_slice-requires c =
-    rw (c.decimal-k.ensures.len.1 ∙ decimal-is c.args.n c.decimal-k.result c.well_formed.0.1 c.decimal-k.ensures.len.0) c.requires
+    rw (c.decimal-k.ensures.digits ∙ decimal-is c.args.n c.decimal-k.result c.ranges.n.fits c.decimal-k.ensures.len) c.requires
 
 pub returns : goal.returns
 returns c =
-    wrote_as (sym (c.decimal-k.ensures.len.1 ∙ decimal-is c.args.n c.decimal-k.result c.well_formed.0.1 c.decimal-k.ensures.len.0)) c.put_slice.ensures
+    wrote_as (sym (c.decimal-k.ensures.digits ∙ decimal-is c.args.n c.decimal-k.result c.ranges.n.fits c.decimal-k.ensures.len)) c.put_slice.ensures
