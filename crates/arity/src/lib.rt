@@ -1,4 +1,6 @@
 // The arity list: refusal 3, and how many arguments a path takes.
+#![tactic(auto)]
+
 ghost use Rattle.std.specs.Prelude.{◌≡◌, true, ◌/◌, ◌<◌, ◌≤◌, length, take, drop};
 ghost use Rattle.octets.specs.Reading.{Got};
 ghost use Rattle.path.specs.Get.{get_path_length, path_text};

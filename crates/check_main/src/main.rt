@@ -1,5 +1,7 @@
 // Runs `check` on the term files that standard input describes, a line each (crate `described`), and prints the line's name, the
 // number and the record; then on two files of many arity entries.
+#![tactic(auto)]
+
 use described::{byte_at, huge_buffer, name_end, put, put_file};
 use std::num::{wrapping_add_usize, wrapping_sub_usize};
 

@@ -1,4 +1,6 @@
 // Refusals 1 to 10 of a term file, with the record at which the fault was found.
+#![tactic(auto)]
+
 ghost use Rattle.std.specs.Prelude.{◌≡◌, true, [], ◌+◌, ◌≤◌, length};
 ghost use Rattle.term.specs.Record.{records_from};
 ghost use Rattle.arity.specs.Arity.{arities_fit, args_of};

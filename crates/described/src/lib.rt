@@ -2,6 +2,8 @@
 // A line is its name, = and six parts with ; between them: records, arity entries, the pool as text, as bytes, the header's
 // numbers where they are not those that the sections give, and how many bytes the file is cut by. Numbers are hexadecimal.
 // A record is its kind, then fields by letter: a, n the child count, x, s and l the text; * says how often it stands.
+#![tactic(auto)]
+
 ghost use Rattle.std.specs.Prelude.{◌≡◌, length};
 
 use std::num::{wrapping_add_u64, wrapping_add_usize, wrapping_sub_usize};

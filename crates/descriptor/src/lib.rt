@@ -1,5 +1,7 @@
 // Resource descriptors: which fields they may have, their sizes and their bytes, by the columns of their rows;
 // and the end of a resource template, before which they stand.
+#![tactic(auto)]
+
 ghost use Rattle.std.specs.Prelude.{◌≡◌, ◌+◌, ◌-◌, ◌*◌, ◌^◌, ◌≤◌, ◌<◌, length};
 ghost use Rattle.octets.specs.Filling.{Wrote};
 ghost use Rattle.descriptor.specs.Descriptor.{row_of, range_length, flags_fit, range_fits, spelled, unused_fits, space_fits, in_range, descriptor};

@@ -1,7 +1,7 @@
 -- A term around children of so many bytes: how many bytes it takes, and what is written before them. For the measuring and the writing
 -- functions. Assumes nothing.
 use Rattle.std.specs.Prelude.{◌≡◌, refl, Bool, true, false, ◌||◌, ℕ, ◌+◌, ◌≤◌, ◌<◌, T, length}
-use Rattle.std.proofs.Common.{sym, ◌∙◌, ap, ap₂, true≢false, arith}
+use Rattle.std.proofs.Common.{sym, ◌∙◌, ap₂, true≢false, arith}
 use mathlib.Core.List.{List, [], ◌∷◌, ◌++◌, append_assoc, append-nil, flatten}
 use Rattle.octets.specs.Filling.{Parts}
 use Rattle.octets.specs.Tests.{or_none}

@@ -1,4 +1,6 @@
 // Encodes a term file: measures its terms, writes them behind the header, and seals the table.
+#![tactic(auto)]
+
 ghost use Rattle.std.specs.Prelude.{◌≡◌, ◌+◌, ◌-◌, ◌≤◌, length};
 ghost use Rattle.octets.specs.Filling.{Wrote};
 ghost use Rattle.grammar.specs.Packed.{row_at};

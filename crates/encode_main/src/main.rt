@@ -1,5 +1,7 @@
 // Document 01's program: reads a term file of at most 65,536 bytes and writes its table, or the line that says why not.
 // `answer` makes all that is written; `main` reads, calls it and writes as many bytes as it says.
+#![tactic(auto)]
+
 ghost use Rattle.std.specs.Prelude.{◌≡◌, ◌≤◌, length};
 ghost use Rattle.octets.specs.Filling.{Wrote};
 ghost use Rattle.encode_main.specs.Program.{decimal, refused_line, line_of, program_of};

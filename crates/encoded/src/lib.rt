@@ -1,5 +1,7 @@
 // For programs: runs `encode` on the term files that standard input describes, a line each (crate `described`), and prints the
 // answer and the table. The output holds one byte throughout before each call, so that a byte written past the length is seen.
+#![tactic(auto)]
+
 use described::{byte_at, huge_buffer, name_end, put_file};
 use shown::{answer, bytes_in, decimal, fill, name, text};
 use std::num::{wrapping_add_usize, wrapping_sub_usize};

@@ -5,7 +5,6 @@ use Rattle.octets.specs.Bytes.{Reader, ◌>>=◌, need, cut, get_le}
 use Rattle.number.specs.Get.{get_integer, get_pkg_length}
 use Rattle.path.specs.Path.{segment}
 use Rattle.path.specs.Get.{get_path_text}
-use Rattle.descriptor.specs.Descriptor as descriptors
 use Rattle.grammar.specs.declared.Text.{Text}
 use Rattle.grammar.specs.declared.Text.TheVariants.{Unused, PathText, SegmentText, Ascii, AnyBytes, EisaText, UuidText, DescriptorText}
 use Rattle.grammar.specs.declared.Numbers.{Numbers}

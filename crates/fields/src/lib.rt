@@ -1,4 +1,6 @@
 // What a term's fields may be, by the columns of its kind: refusals 5 and 6.
+#![tactic(auto)]
+
 ghost use Rattle.std.specs.Prelude.{◌≡◌};
 ghost use Rattle.octets.specs.Bytes.{every};
 ghost use Rattle.fields.specs.Fields.{flags_fit, form_fits, numbers_fit, text_fits, in_range, ascii, text_spelled, spelled};

@@ -1,4 +1,6 @@
 // What stands around a term's children, of the kind at j in the table: its frame, and in its body what is before them and what is behind.
+#![tactic(auto)]
+
 ghost use Rattle.std.specs.Prelude.{◌≡◌, ◌+◌, ◌≤◌, length};
 ghost use Rattle.octets.specs.Filling.{Wrote};
 ghost use Rattle.grammar.specs.Packed.{row_at};

@@ -1,7 +1,7 @@
 -- The kinds of terms, as rows of one table: checker, encoder, reader and lister read the same rows, and the code holds the same list.
 -- Document 01, "Kinds" and "Bytes"; ACPI 6.4, 20.2.5 (Term Objects Encoding) and 20.3 (AML Byte Stream Byte Values).
 -- Assumes nothing.
-use Rattle.std.specs.Prelude.{Bool, true, false, ◌||◌, cond, List, [], ◌∷◌, ◌++◌, map, ℕ, ◌+◌, ◌-◌, ◌/◌, ◌%◌, ◌^◌, eqb, ltb, leb, length}
+use Rattle.std.specs.Prelude.{Bool, true, false, ◌||◌, cond, List, [], ◌∷◌, ◌++◌, map, ℕ, ◌-◌, ◌/◌, ◌%◌, ◌^◌, eqb, ltb, leb, length}
 use Rattle.std.proofs.Math.Option.{Option, none, some}
 use Rattle.octets.specs.Bytes.{le, value}
 use Rattle.grammar.specs.declared.Place.{Place}

@@ -1,4 +1,6 @@
 // The kinds of terms: one table of rows that checker, encoder and reader share, found by kind and by leading byte.
+#![tactic(auto)]
+
 ghost use Rattle.std.specs.Prelude.{◌≡◌, ◌+◌, ◌<◌, drop};
 ghost use Rattle.grammar.specs.Kinds.{kinds, rank, stands, child_place};
 ghost use Rattle.grammar.specs.Packed.{position, row_at, place_of, places_of, text_of, rest_of, numbers_of, unpack, entry, words, seconds, thirds};

@@ -1,4 +1,6 @@
 // Identifiers spelled as text, refused where they are malformed; and the makers of generic addresses.
+#![tactic(auto)]
+
 ghost use Rattle.std.specs.Prelude.{◌≡◌, ◌+◌, ◌-◌, ◌*◌, ◌^◌, ◌≤◌, ◌<◌, T, length, get_or};
 ghost use Rattle.octets.specs.Bytes.{every};
 ghost use Rattle.octets.specs.Filling.{Wrote};

@@ -1,5 +1,7 @@
 // Runs the leaves on document 01's examples and on the limits around them, and prints what they give: a line each.
 // What is written is read back; what is longer than it has to be must be read as none.
+#![tactic(auto)]
+
 use ident::{EISAName, Made};
 use octets::Num;
 

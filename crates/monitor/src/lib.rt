@@ -1,6 +1,8 @@
 // The C face, for a Rust or C program that links the static library (crate `monitor_c`, which exports these functions): the calls of
 // the crates below, on byte slices and numbers. A symbol named `read` or `write` would take the C library's place, so each name has
 // the prefix `acpi_`.
+#![tactic(auto)]
+
 ghost use Rattle.std.specs.Prelude.{◌≡◌, ◌<◌};
 ghost use Rattle.checker.specs.Refusal.{refusal_of};
 ghost use Rattle.sdt.specs.Edit.{new_of, append_of, write_of, Left};
@@ -91,12 +93,7 @@ pub fn acpi_new(identity: &[u8; 31], length: u32, buffer: &mut [u8]) -> AcpiEdit
     edited(sdt::new_at(t, identity, length, buffer))
 }
 
-pub fn acpi_append(
-    buffer: &mut [u8],
-    length: u32,
-    checksum: u8,
-    piece: &[u8],
-) -> AcpiEdit
+pub fn acpi_append(buffer: &mut [u8], length: u32, checksum: u8, piece: &[u8]) -> AcpiEdit
     ensures { Left (edit_of result) buffer.new (append_of (record_of length checksum) buffer.old piece.now) }
 {
     let t = sdt::Sdt { length, checksum };

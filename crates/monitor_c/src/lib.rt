@@ -1,5 +1,7 @@
 // The static library: the C face of `monitor`, for a Rust or C program that links it. Each export calls the function of its name there
 // and states its clauses again.
+#![tactic(auto)]
+
 ghost use Rattle.std.specs.Prelude.{◌≡◌};
 ghost use Rattle.checker.specs.Refusal.{refusal_of};
 ghost use Rattle.sdt.specs.Edit.{new_of, append_of, write_of, Left};

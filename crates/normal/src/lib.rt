@@ -1,1 +1,3 @@
+#![tactic(auto)]
+
 // The normal-form file; definitions and laws.

@@ -1,4 +1,6 @@
 // Normalises a term file: what its records become, walking along them, and the arity list repacked, in a file of normal form.
+#![tactic(auto)]
+
 ghost use Rattle.std.specs.Prelude.{◌≡◌, ◌++◌, ◌/◌, ◌≤◌, ◌<◌, length};
 ghost use Rattle.octets.specs.Filling.{Wrote};
 ghost use Rattle.descriptor.specs.Template.{end_tag};

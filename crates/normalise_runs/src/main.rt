@@ -1,5 +1,7 @@
 // Runs `normalise` on the term files that standard input describes, a line each (crate `described`), and prints the answer and the
 // normal-form file; then whether that file is its own normal form and encodes as the first one does, and the call in less room.
+#![tactic(auto)]
+
 use described::{byte_at, huge_buffer, name_end, put_file};
 use shown::{answer, bytes_in, decimal, fill, front, holds, name, text};
 use std::num::{wrapping_add_usize, wrapping_sub_usize};

@@ -1,4 +1,6 @@
 // Integers and lengths of AML: their size, their bytes, and strict reading, which takes exactly what writing gives.
+#![tactic(auto)]
+
 ghost use Rattle.std.specs.Prelude.{◌≡◌, true, false, ◌∷◌, ◌≤◌, ◌<◌, length};
 ghost use Rattle.octets.specs.Bytes.{le};
 ghost use Rattle.octets.specs.Filling.{Wrote};

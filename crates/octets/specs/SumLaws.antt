@@ -1,5 +1,5 @@
 -- Laws of the byte sum and of the checksum, and the loop that adds the bytes.
-use Rattle.std.specs.Prelude.{◌≡◌, ℕ, zero, suc, ◌+◌, ◌-◌, ◌%◌, ◌<◌, ◌≤◌, List, [], ◌∷◌, ◌++◌, length, drop, slice_index, slice_set}
+use Rattle.std.specs.Prelude.{◌≡◌, ℕ, zero, suc, ◌+◌, ◌%◌, ◌<◌, ◌≤◌, List, [], ◌∷◌, ◌++◌, length, drop, slice_index, slice_set}
 use Rattle.std.proofs.Common.{arith, add-one, drop_of_length-le, drop-cons}
 use Rattle.octets.specs.Sum.{byte_sum, negated, total}
 

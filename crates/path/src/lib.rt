@@ -1,5 +1,7 @@
 // Paths, for the checker, the encoder and the decoder: text is checked and written as bytes, bytes are read
 // strictly and written as text. Every loop goes from segment to segment.
+#![tactic(auto)]
+
 ghost use Rattle.std.specs.Prelude.{◌≡◌, ◌+◌, ◌-◌, ◌*◌, ◌≤◌, ◌<◌, T, length, drop, get_or};
 ghost use Rattle.octets.specs.Filling.{Wrote};
 ghost use Rattle.octets.specs.Reading.{Reads};

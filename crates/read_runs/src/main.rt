@@ -2,6 +2,8 @@
 // its arity list, and must give its normal form. Behind the file may stand | and bytes that are appended to the table; ! and the
 // bytes of a table, which is read with the file as arity file; ~ for each other value of each byte behind the table's header.
 // Bytes stand as the pool of a file. Length and checksum are made right, but behind !.
+#![tactic(auto)]
+
 use described::{byte_at, huge_buffer, mark_at, name_end, put, put_file};
 use shown::{answer, bytes_in, decimal, fill, front, holds, mixed, name, text};
 use std::num::{wrapping_add_u8, wrapping_add_u64, wrapping_add_usize, wrapping_sub_usize};

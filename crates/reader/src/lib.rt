@@ -1,4 +1,6 @@
 // Reads a table: the one normal-form file that it came from, with the arity list of a file that has no record; or the refusal.
+#![tactic(auto)]
+
 ghost use Rattle.std.specs.Prelude.{◌≡◌, true, ◌≤◌, length};
 ghost use Rattle.octets.specs.Filling.{Wrote};
 ghost use Rattle.arity.specs.Arity.{arities_fit};

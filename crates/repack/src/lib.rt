@@ -1,5 +1,7 @@
 // What every normal-form file has: its header's numbers, its records one by one, and the arity list repacked, whose texts stand one
 // behind the other from the pool's beginning. Normalising and reading both write it.
+#![tactic(auto)]
+
 ghost use Rattle.std.specs.Prelude.{◌≡◌, true, ◌≤◌, length};
 ghost use Rattle.octets.specs.Filling.{Wrote};
 ghost use Rattle.arity.specs.Arity.{arities_of, arities_fit};

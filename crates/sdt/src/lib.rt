@@ -1,4 +1,6 @@
 // The growing table of `sdt.rs`, in place: a record of its length and checksum beside a lent buffer.
+#![tactic(auto)]
+
 ghost use Rattle.std.specs.Prelude.{◌≡◌, ◌||◌, ◌+◌, ◌≤◌, ◌<◌, eqb, leb, length};
 ghost use Rattle.octets.specs.Filling.{Wrote};
 ghost use Rattle.sdt.specs.Edit.{sound, writable, new_of, append_of, write_of, Left, Leaves};

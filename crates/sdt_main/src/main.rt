@@ -1,5 +1,7 @@
 // Runs the growing table: document 01's whole table in a new header and three appends, writes, and each refusal.
 // Each line is a call, its number, the record and every byte of the buffer as they are left.
+#![tactic(auto)]
+
 ghost use Rattle.sdt.specs.Edit.{new_of, append_of, write_of, Left};
 
 use sdt::{Edit, Sdt};

@@ -1,4 +1,6 @@
 // Moves texts out of the table that was read into the pool of the file that is made: the reader's last step over its records.
+#![tactic(auto)]
+
 ghost use Rattle.std.specs.Prelude.{◌≡◌, ◌≤◌, length};
 ghost use Rattle.octets.specs.Filling.{Wrote};
 ghost use Rattle.walk.specs.Calls.{is_path_text};

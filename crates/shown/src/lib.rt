@@ -1,5 +1,7 @@
 // What programs that run cases print: answers, bytes, names of lines. An output is filled before a call, and held behind its
 // length to what it was, so that a byte written past the length is seen.
+#![tactic(auto)]
+
 use encode::Answer;
 
 // Standard output.

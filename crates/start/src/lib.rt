@@ -1,4 +1,6 @@
 // Which kind of term begins at a position of a table, and where the body behind its opcode starts and ends.
+#![tactic(auto)]
+
 ghost use Rattle.std.specs.Prelude.{◌≡◌, cond, ◌+◌, ◌^◌, ◌≤◌, ◌<◌, eqb, length, drop, get_or};
 ghost use Rattle.octets.specs.Bytes.{le, begins};
 ghost use Rattle.tree.specs.Read.{kind_at};

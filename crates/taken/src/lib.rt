@@ -1,4 +1,6 @@
 // Reads a term's text and numbers by the columns of its kind: the text's length, a and x, and where they end.
+#![tactic(auto)]
+
 ghost use Rattle.std.specs.Prelude.{◌≡◌, ◌-◌, ◌≤◌, T, length};
 ghost use Rattle.octets.specs.Reading.{Reads};
 ghost use Rattle.fields.specs.Get.{get_string, get_segment};

@@ -1,4 +1,6 @@
 // The term file: its layout, its records and their texts.
+#![tactic(auto)]
+
 ghost use Rattle.std.specs.Prelude.{◌≡◌, ◌+◌, ◌*◌, ◌/◌, ◌≤◌, ◌<◌, length};
 ghost use Rattle.term.specs.File.{touching, laid_out, few, refused_by, layout_of};
 ghost use Rattle.term.specs.Record.{record_at, text_at};

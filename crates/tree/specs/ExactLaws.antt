@@ -19,7 +19,7 @@ use Rattle.grammar.specs.declared.Row.{Row}
 use Rattle.grammar.specs.Kinds.{stands, child_place, opcode, normal_kinds, find, row_of, row_in}
 use Rattle.grammar.specs.Forest.{Fields, Forest, nil, node, count}
 use Rattle.tree.specs.Fits.{Args, fine, known, term_fits, Fits}
-use Rattle.tree.specs.Bytes.{body, box, term_bytes, bytes}
+use Rattle.tree.specs.Bytes.{box, term_bytes, bytes}
 use Rattle.tree.specs.Normal.{body_fits, roomy}
 use Rattle.tree.specs.IsNormal.{is_normal, normal}
 use Rattle.tree.specs.Read.{Tree, onto, kind_at, literal, list, get_body, unbox, read, parse}

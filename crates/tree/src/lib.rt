@@ -1,1 +1,3 @@
+#![tactic(auto)]
+
 // Forests that may stand; definitions only.

@@ -1,4 +1,6 @@
 // Reads the terms of a table: walks over their bytes, and leaves their records where there is room for them.
+#![tactic(auto)]
+
 ghost use Rattle.std.specs.Prelude.{◌≡◌, true, false, cond, ◌+◌, ◌*◌, ◌≤◌, length, drop};
 ghost use Rattle.octets.specs.Reading.{Reads, Got};
 ghost use Rattle.path.specs.Get.{get_path_length, path_text};

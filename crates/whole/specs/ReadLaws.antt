@@ -13,8 +13,7 @@ use Rattle.octets.specs.Sum.{byte_sum}
 use Rattle.octets.specs.Tests.{cond_case, cond_inv}
 use Rattle.grammar.specs.Forest.{Forest, flatten}
 use Rattle.tree.specs.Bytes.{bytes}
-use Rattle.tree.specs.Normal.{norm, roomy}
-use Rattle.tree.specs.IsNormal.{normal}
+use Rattle.tree.specs.Normal.{norm}
 use Rattle.tree.specs.NormalLaws.{norm_fixed}
 use Rattle.tree.specs.Read.{parse}
 use Rattle.tree.specs.ExactLaws.{parse-back, parse-only, bytes_injective}

@@ -1,7 +1,7 @@
 -- Whole files and whole tables: what a file is, the table that it encodes to, its normal form, and the reading of a table.
 -- Document 01, "Bytes" (Normal form), "Refusal numbers" (Accepted means ..; Reading: ..).
 -- Assumes nothing.
-use Rattle.std.specs.Prelude.{◌≡◌, ◌||◌, not, cond, true, List, ◌++◌, ℕ, ◌+◌, ◌≤◌, eqb, leb, ltb, length, take, drop}
+use Rattle.std.specs.Prelude.{◌≡◌, ◌||◌, not, cond, true, List, ◌++◌, ℕ, ◌≤◌, eqb, leb, ltb, length, take, drop}
 use Rattle.std.proofs.Math.Option.{Option, none, some}
 use Rattle.octets.specs.Bytes.{le_at}
 use Rattle.octets.specs.Sum.{byte_sum}

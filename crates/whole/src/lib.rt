@@ -1,1 +1,3 @@
+#![tactic(auto)]
+
 // Whole files and whole tables; definitions and theorems.

@@ -1,4 +1,6 @@
 // Writes a term's text and numbers by the columns of its kind, and says how many bytes they take.
+#![tactic(auto)]
+
 ghost use Rattle.std.specs.Prelude.{◌≡◌, ◌++◌, ◌∷◌, [], ◌+◌, ◌^◌, ◌≤◌, ◌<◌, T, length};
 ghost use Rattle.octets.specs.Bytes.{le};
 ghost use Rattle.octets.specs.Filling.{Wrote};

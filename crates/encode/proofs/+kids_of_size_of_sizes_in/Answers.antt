@@ -7,7 +7,6 @@ use borrow.Author.Rules.{rules}
 use Rattle.encode.specs.WalkLaws.{list-fits, none-measured, out_measured, none-listed, left-start, left_turn, left-sum, left_end, node-measured}
 use Rattle.encode.specs.Sound.{node_parent, ready_here, takes-here}
 use Rattle.encode.specs.Kept.{parent_put}
-use borrow.Fn.PlainCycle.{is}
 use Rattle.encode.proofs.+kids_of_size_of_sizes_in.Goals as goal
 
 pub kids_of-overflow_add-result : goal.kids_of-overflow_add-result

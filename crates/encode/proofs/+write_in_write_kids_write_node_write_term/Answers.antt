@@ -7,7 +7,6 @@ use borrow.Author.Rules.{rules}
 use Rattle.octets.specs.Filling.{writing_fits, writing_next, writing_within, writing_same, writing_end}
 use Rattle.encode.specs.WalkLaws.{none-measured, out_measured, none-listed, put-none, node-put, listing_start, listing_fits, listing_less, listing_turn, listing_end}
 use Rattle.encode.specs.Sound.{node_parent, fine-here, ready_here, start-here, body-few-here, kids-few-here}
-use borrow.Fn.PlainCycle.{is}
 use Rattle.encode.proofs.+write_in_write_kids_write_node_write_term.Goals as goal
 
 pub write_in-loop-left-init : goal.write_in-loop-left-init

@@ -1,6 +1,5 @@
 -- `start::box_at` meets its contract: each end of the code is one of `unbox`. Assumes nothing.
 use native.Mathlib.Omega.{arith}
-use borrow.Author.Tests.{not-true, not-false}
 use Rattle.octets.specs.Reading.{got}
 use Rattle.start.specs.Box.{opens-bare, opens_unmeasured, opens-short, opens-boxed}
 use Rattle.start.proofs.box_at.Goals as goal

@@ -1,7 +1,6 @@
 -- `start::start_at` meets its contract: each end of the code is one of `start_at`. Assumes nothing.
 use mathlib.Core.Path.{sym, ◌∙◌}
 use native.Mathlib.Omega.{arith}
-use borrow.Author.Tests.{not-true, not-false}
 use Rattle.start.specs.StartLaws.{start_end, start_unknown, start-few, start_misplaced, start-other, start-found}
 use Rattle.start.proofs.start_at.Goals as goal
 

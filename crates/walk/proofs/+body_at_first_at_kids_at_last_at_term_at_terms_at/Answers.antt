@@ -14,7 +14,6 @@ use Rattle.walk.specs.Loop.{turning_start, turns, turning_bad, turning_next, tur
 use Rattle.walk.specs.Steps.{first-none}
 use Rattle.walk.specs.Calls.{call_path}
 use Rattle.walk.specs.Cycle.{walkable_on, walkable_part, begins-normal, begins-inside, spans_bad, above_zero, body_as, term_zero, term_nowhere, term-none, term-whole, kids_no, kids-whole, first_unkept, first-few, first-whole, last_unkept, last_within, last_fieldless, last-few, last-whole}
-use borrow.Fn.PlainCycle.{is}
 use Rattle.walk.proofs.+body_at_first_at_kids_at_last_at_term_at_terms_at.Goals as goal
 
 pub body_at-last_at-requires : goal.body_at-last_at-requires
