@@ -16,7 +16,7 @@ use Rattle.number.specs.Integer.{integer}
 use Rattle.number.specs.Get.{get_integer, get_pkg_length}
 use Rattle.number.specs.IntegerLaws.{integer_exact}
 use Rattle.number.specs.PkgLength.{create_pkg_length, largest}
-use Rattle.number.specs.PkgLengthLaws.{pkg_length_exact}
+use Rattle.number.proofs.PkgLengthExact.{pkg_length_exact}
 use Rattle.path.specs.Path.{is_path, path_bytes}
 use Rattle.path.specs.Get.{path_text, get_path_length}
 use Rattle.path.specs.PathCode.{text-read, path-read-only, path-read-back, path-text-back}

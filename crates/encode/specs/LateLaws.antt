@@ -12,8 +12,8 @@ use Rattle.grammar.specs.Forest.{Fields, Forest, nil, node, count, depth, flatte
 use Rattle.grammar.specs.ForestLaws.{flatten-build}
 use Rattle.tree.specs.Bytes.{body, term_bytes, bytes}
 use Rattle.tree.specs.Normal.{norm, body_fits, roomy}
-use Rattle.tree.specs.NormalLaws.{norm-depth, bytes-norm}
-use Rattle.tree.specs.BodyLaws.{box-least}
+use Rattle.tree.proofs.NormalLaws.{norm-depth, bytes-norm}
+use Rattle.tree.proofs.BodyLaws.{box-least}
 use Rattle.term.specs.File.{identity}
 use Rattle.term.specs.Record.{records_of, records_from}
 use Rattle.term.specs.RecordLaws.{records-length}

@@ -12,7 +12,7 @@ use Rattle.octets.specs.Exact.{Exact}
 use Rattle.octets.specs.Laws.{le_join, le_exact}
 use Rattle.octets.specs.Matches.{Matches, exact_matches, regood, reput, recast, cut_matches, seq}
 use Rattle.number.specs.IntegerLaws.{integer_exact}
-use Rattle.number.specs.PkgLengthLaws.{pkg_length_exact}
+use Rattle.number.proofs.PkgLengthExact.{pkg_length_exact}
 use Rattle.path.specs.Path.{segment}
 use Rattle.path.specs.PathLaws.{path-text_exact, segment-length}
 use Rattle.grammar.specs.declared.Text.{Text}

@@ -2,6 +2,5 @@ pub mod Kinds
 pub mod Packed
 pub mod Family
 pub mod KindLaws
-pub mod PackedLaws
 pub mod Forest
 pub mod ForestLaws

@@ -11,7 +11,6 @@ ghost use Rattle.monitor.specs.Face.{Faced, face_of, verdict_of, edit_of, record
 
 use monitor::{AcpiAnswer, AcpiEdit};
 
-
 // ── Term files
 
 #[unsafe(no_mangle)]

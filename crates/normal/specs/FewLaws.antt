@@ -22,8 +22,8 @@ use Rattle.tree.specs.Fits.{Args, fine, known, term_fits, Fits}
 use Rattle.tree.specs.Bytes.{front, back, before, behind, body, box, term_bytes, bytes}
 use Rattle.tree.specs.IsNormal.{normal}
 use Rattle.tree.specs.StartLaws.{opens_form, opens_text, opens, fields-start}
-use Rattle.tree.specs.TableLaws.{normal-row, normal-found}
-use Rattle.tree.specs.BodyLaws.{box-least}
+use Rattle.tree.proofs.TableLaws.{normal-row, normal-found}
+use Rattle.tree.proofs.BodyLaws.{box-least}
 use Rattle.normal.specs.File.{term_texts}
 use Rattle.normal.specs.SectionLaws.{texts-append}
 

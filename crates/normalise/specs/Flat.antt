@@ -14,7 +14,7 @@ use Rattle.grammar.specs.Forest.{Forest, nil, count, depth, Term, flatten}
 use Rattle.tree.specs.Bytes.{bytes}
 use Rattle.tree.specs.Fits.{Args, Fits}
 use Rattle.tree.specs.Normal.{integer_term, buffer_term, norm}
-use Rattle.tree.specs.NormalLaws.{norm-count, norm-depth}
+use Rattle.tree.proofs.NormalLaws.{norm-count, norm-depth}
 use Rattle.encode.specs.Walk.{Part, is_buffer, list, node, term, walk-forest}
 
 -- the records of an integer, and of a buffer with its size

@@ -13,7 +13,7 @@ use Rattle.grammar.specs.Forest.{Forest, nil, node, count, depth, Term, flatten}
 use Rattle.grammar.specs.ForestLaws.{flatten-build}
 use Rattle.tree.specs.Bytes.{term_bytes, bytes}
 use Rattle.tree.specs.Normal.{norm}
-use Rattle.tree.specs.NormalLaws.{norm-depth}
+use Rattle.tree.proofs.NormalLaws.{norm-depth}
 use Rattle.term.specs.declared.Layout.{Layout}
 use Rattle.term.specs.File.{identity, layout_of}
 use Rattle.arity.specs.Arity.{Arity, arities_of, args_of}

@@ -11,7 +11,6 @@ use Rattle.std.proofs.Math.Dec.{T, eqb→eq, eqb_refl, ltb→lt, leb→le, le→
 use borrow.Author.Tests.{lt-ltb, le-ltb, le-leb, lt-leb, leb-true, leb-false}
 use Rattle.octets.specs.Bytes.{◌>>=◌, need, every, is_byte, le, get_le}
 use Rattle.octets.specs.Tests.{and_left, and_right, and_both, true_test, took, gave, need_inv, need_true}
-use Rattle.octets.specs.Exact.{Exact}
 use Rattle.octets.specs.Laws.{le-length, le_exact}
 use Rattle.octets.specs.Reading.{Reads, reads_none, past_end, next_byte}
 use Rattle.octets.specs.declared.Num.{Num}
@@ -106,7 +105,7 @@ module _ (self : Bool) where
       read_as (suc k) m _ _ rest (omega arith)
       (need_true (ltb ((64 * suc k + m % 16) % 64) 16) _ (lt→ltb ((64 * suc k + m % 16) % 64) 16 (omega arith)) ∙ rw ((le_exact (suc k)).back (m / 16) rest h, e)) t
 
-  pkg_length-back : (n : ℕ) (rest : List ℕ) → n ≤ largest self → get_pkg_length self (create_pkg_length self n ++ rest) ≡ some (n, rest)
+  pub pkg_length-back : (n : ℕ) (rest : List ℕ) → n ≤ largest self → get_pkg_length self (create_pkg_length self n ++ rest) ≡ some (n, rest)
   unfolding create_pkg_length shortest
   pkg_length-back n rest h =
       let o = own self (following n) in
@@ -130,7 +129,7 @@ module _ (self : Bool) where
       let hi : x ≡ m / 16 = omega arith in
       ap₂ (λ x y. x ∷ y) lo (rw (← hi, ← q) f)
 
-  pkg_length-only : (bs : List ℕ) (n : ℕ) (rest : List ℕ) → get_pkg_length self bs ≡ some (n, rest) → (n ≤ largest self) × (bs ≡ create_pkg_length self n ++ rest)
+  pub pkg_length-only : (bs : List ℕ) (n : ℕ) (rest : List ℕ) → get_pkg_length self bs ≡ some (n, rest) → (n ≤ largest self) × (bs ≡ create_pkg_length self n ++ rest)
   unfolding get_pkg_length create_pkg_length shortest
   pkg_length-only [] n rest h = absurd (none-ne-some _ h)
   pkg_length-only (b ∷ bs) n rest h =
@@ -143,9 +142,6 @@ module _ (self : Bool) where
       let w : following (m - o) ≡ b / 64 = eqb→eq _ _ (search (and_left, and_right)) in
       let e : m - o + o ≡ m = omega arith in
       (rw p at s, rw (← p, w, e, ← q) (bytes-only (b / 64) b bs m z refl h₁))
-
-pub pkg_length_exact : (self : Bool) → Exact (create_pkg_length self) (get_pkg_length self) (λ n. n ≤ largest self)
-pkg_length_exact self = record { back = pkg_length-back self; only = pkg_length-only self }
 
 -- ── Reading at a position: the end of the bytes, a first byte that is none, or the bytes that it announces
 -- c is the first byte of a long length and has a 1 in bit 4 or 5

@@ -17,7 +17,7 @@ use Rattle.octets.specs.Reading.{Digits}
 use Rattle.grammar.specs.declared.Place.TheVariants.{InList}
 use Rattle.grammar.specs.Forest.{Forest, flatten}
 use Rattle.tree.specs.Read.{list, read, parse}
-use Rattle.tree.specs.ExactLaws.{parse-only}
+use Rattle.tree.proofs.ExactLaws.{parse-only}
 use Rattle.term.specs.declared.Layout.{Layout}
 use Rattle.term.specs.File.{record_count, layout_of}
 use Rattle.arity.specs.Arity.{arities_of, arities_fit, args_of}

@@ -19,7 +19,7 @@ use Rattle.fields.specs.Fields.{numbers_fit, text_fits, in_range, text_spelled, 
 use Rattle.fields.specs.Written.{text_bytes}
 use Rattle.fields.specs.WrittenLaws.{readable_text, readable, normal-readable}
 use Rattle.tree.specs.IsNormal.{is_normal}
-use Rattle.tree.specs.TableLaws.{normal-row, normal-found}
+use Rattle.tree.proofs.TableLaws.{normal-row, normal-found}
 use Rattle.term.specs.declared.Record.{Record}
 use Rattle.term.specs.Record.{records_of, text_at}
 use Rattle.normal.specs.File.{start_of, records_bytes, term_texts}

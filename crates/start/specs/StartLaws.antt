@@ -22,7 +22,7 @@ use Rattle.grammar.specs.Family.{family_of}
 use Rattle.grammar.specs.KindLaws.{every_row, found-kind, found-rule, placed, position_first, kinds-count, row-known, row-kind}
 use Rattle.tree.specs.Fits.{Args}
 use Rattle.tree.specs.Read.{twofold, kind_in, entry_in, kind_at, literal, get_body, unbox, read}
-use Rattle.tree.specs.TableLaws.{normal-row, kind-bytes}
+use Rattle.tree.proofs.TableLaws.{normal-row, kind-bytes}
 use Rattle.start.specs.Start.{normal_count, starts_as, start_at, Begins}
 
 -- ── Which kind

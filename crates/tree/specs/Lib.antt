@@ -3,10 +3,6 @@ pub mod Bytes
 pub mod Normal
 pub mod IsNormal
 pub mod Read
-pub mod NormalLaws
 pub mod Good
 pub mod StartLaws
-pub mod BodyLaws
-pub mod TableLaws
-pub mod ExactLaws
 pub mod Examples

@@ -11,7 +11,7 @@ use Rattle.tree.specs.Fits.{Args}
 use Rattle.tree.specs.Bytes.{bytes}
 use Rattle.tree.specs.Read.{read, onto, Tree}
 use Rattle.tree.specs.Good.{tree_bytes, Good}
-use Rattle.tree.specs.ExactLaws.{tree-forest, read_exact}
+use Rattle.tree.proofs.ExactLaws.{tree-forest, read_exact}
 use Rattle.normal.specs.FewLaws.{Few, few-forest}
 use Rattle.walk.specs.declared.Walk.{Walk}
 use Rattle.walk.specs.Walk.{tree, Walks, Spans}

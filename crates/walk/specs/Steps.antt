@@ -24,7 +24,7 @@ use Rattle.fields.specs.Get.{get_fields}
 use Rattle.fields.specs.WrittenLaws.{fields_exact, normal-readable}
 use Rattle.tree.specs.Fits.{Args}
 use Rattle.tree.specs.Read.{Body, Tree, get_many, get_kids, get_body, unbox, read}
-use Rattle.tree.specs.TableLaws.{normal-row, found-normal}
+use Rattle.tree.proofs.TableLaws.{normal-row, found-normal}
 use Rattle.start.specs.Start.{Begins}
 use Rattle.start.specs.StartLaws.{read_here}
 use Rattle.start.specs.Box.{Opened}

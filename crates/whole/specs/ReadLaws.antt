@@ -14,9 +14,9 @@ use Rattle.octets.specs.Tests.{cond_case, cond_inv}
 use Rattle.grammar.specs.Forest.{Forest, flatten}
 use Rattle.tree.specs.Bytes.{bytes}
 use Rattle.tree.specs.Normal.{norm}
-use Rattle.tree.specs.NormalLaws.{norm_fixed}
+use Rattle.tree.proofs.NormalLaws.{norm_fixed}
 use Rattle.tree.specs.Read.{parse}
-use Rattle.tree.specs.ExactLaws.{parse-back, parse-only, bytes_injective}
+use Rattle.tree.proofs.ExactLaws.{parse-back, parse-only, bytes_injective}
 use Rattle.term.specs.File.{identity}
 use Rattle.arity.specs.Arity.{Arity, args_in}
 use Rattle.normal.specs.File.{file_of}

@@ -15,7 +15,7 @@ use Rattle.tree.specs.Fits.{Fits}
 use Rattle.tree.specs.Bytes.{bytes}
 use Rattle.tree.specs.Normal.{norm, roomy}
 use Rattle.tree.specs.IsNormal.{normal}
-use Rattle.tree.specs.NormalLaws.{norm-norm, norm-depth, norm-fits, norm-normal, norm_fixed}
+use Rattle.tree.proofs.NormalLaws.{norm-norm, norm-depth, norm-fits, norm-normal, norm_fixed}
 use Rattle.term.specs.File.{identity, layout_of}
 use Rattle.term.specs.Record.{records_from}
 use Rattle.arity.specs.Arity.{Arity, arities_fit, args_in, args_of}

@@ -6,7 +6,7 @@ use Rattle.path.specs.Path.{lead_name}
 use Rattle.path.specs.Get.{name_start}
 use Rattle.grammar.specs.Kinds.{normal_kinds, stands, is, rank}
 use Rattle.grammar.specs.Family.{family_of, family_in, starts, family_name, begins_text, begins_numbers, begins_integer}
-use Rattle.grammar.specs.PackedLaws.{listed, listed_at}
+use Rattle.grammar.proofs.PackedLaws.{listed, listed_at}
 use Rattle.grammar.proofs.family.Goals as goal
 
 pub returns : goal.returns

@@ -1,7 +1,7 @@
 -- `grammar::last_at` meets its contract: the digits of the column. Assumes nothing.
 use mathlib.Core.Path.{refl}
 use Rattle.grammar.specs.Packed.{unpack}
-use Rattle.grammar.specs.PackedLaws.{row-packed}
+use Rattle.grammar.proofs.PackedLaws.{row-packed}
 use Rattle.grammar.proofs.last_at.Goals as goal
 
 pub returns : goal.returns

@@ -1,6 +1,6 @@
 -- `grammar::rest_at` meets its contract: the digits of the column. Assumes nothing.
 use Rattle.grammar.specs.Packed.{unpack}
-use Rattle.grammar.specs.PackedLaws.{row-packed}
+use Rattle.grammar.proofs.PackedLaws.{row-packed}
 use Rattle.grammar.proofs.rest_at.Goals as goal
 
 pub returns : goal.returns

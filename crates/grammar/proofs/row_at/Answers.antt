@@ -1,5 +1,5 @@
 -- `grammar::row_at` meets its contract: the numbers of the rows compute to the table. Assumes nothing.
-use Rattle.grammar.specs.PackedLaws.{row-packed}
+use Rattle.grammar.proofs.PackedLaws.{row-packed}
 use Rattle.grammar.proofs.row_at.Goals as goal
 
 pub returns : goal.returns

@@ -1,5 +1,5 @@
 -- `grammar::unpacked` meets its contract: each column is the digit at its place. Assumes nothing.
-use Rattle.grammar.specs.PackedLaws.{row_made}
+use Rattle.grammar.proofs.PackedLaws.{row_made}
 use Rattle.grammar.proofs.unpacked.Goals as goal
 
 pub returns : goal.returns

@@ -6,7 +6,7 @@ use lib.ListN.{drop}
 use lib.Seq.{length-take-le}
 use borrow.Author.Tests.{not-true, not-false}
 use Rattle.octets.specs.Reading.{got, got-none}
-use Rattle.tree.specs.TableLaws.{normal-row}
+use Rattle.tree.proofs.TableLaws.{normal-row}
 use Rattle.taken.specs.TakenLaws.{taken, taken_none, row-short}
 use Rattle.start.specs.StartLaws.{start-row}
 use Rattle.start.specs.Box.{opened, opened-none}

@@ -16,7 +16,7 @@ use Rattle.octets.specs.Tests.{and_left, and_right, took, gave, need_inv, need_t
 use Rattle.octets.specs.Laws.{no_bytes, cut-back, cut-only, le_exact}
 use Rattle.number.specs.PkgLength.{largest}
 use Rattle.number.specs.Get.{get_pkg_length}
-use Rattle.number.specs.PkgLengthLaws.{pkg_length_exact}
+use Rattle.number.proofs.PkgLengthExact.{pkg_length_exact}
 use Rattle.grammar.specs.declared.Place.{Place}
 use Rattle.grammar.specs.declared.Rest.{Rest}
 use Rattle.grammar.specs.declared.Rest.TheVariants.{Nothing, Arity, Listed, Counted, Measured}

@@ -20,7 +20,7 @@ use Rattle.tree.specs.Read.{Body, twofold, kind_in, entry_in, kind_at}
 use Rattle.grammar.specs.KindLaws.{every_row, found-kind, found-rule}
 use Rattle.fields.specs.WrittenLaws.{ends_text, ends_fields, readable_text, readable_form, no_bytes, readable}
 use Rattle.tree.specs.StartLaws.{opens_form, opens_text, first_of, opens, first, fields-start}
-use Rattle.tree.specs.BodyLaws.{ends_rest, ordered, ends_body, solid, body_bytes, FieldsGood}
+use Rattle.tree.proofs.BodyLaws.{ends_rest, ordered, ends_body, solid, body_bytes, FieldsGood}
 
 -- ── A normal kind's row is its row in the whole table
 found-append : (k : ℕ) (rs ss : List Row) {r : Row} → find k rs ≡ some r → find k (rs ++ ss) ≡ some r

@@ -26,8 +26,8 @@ use Rattle.tree.specs.Read.{Tree, onto, kind_at, literal, list, get_body, unbox,
 use Rattle.tree.specs.Good.{tree, tree_bytes, Good}
 use Rattle.octets.specs.Matches.{Matches, regood}
 use Rattle.grammar.specs.KindLaws.{found-kind}
-use Rattle.tree.specs.BodyLaws.{Each, room_for, body_bytes, BodyGood, list-ends, list_exact, body_exact}
-use Rattle.tree.specs.TableLaws.{normal-row, normal-found, found-normal, solid-row, kind-begins, kind-bytes}
+use Rattle.tree.proofs.BodyLaws.{Each, room_for, body_bytes, BodyGood, list-ends, list_exact, body_exact}
+use Rattle.tree.proofs.TableLaws.{normal-row, normal-found, found-normal, solid-row, kind-begins, kind-bytes}
 
 -- a term's bytes are those of the forest that it is
 pub tree-forest : (t : Tree) → bytes (onto t nil) ≡ tree_bytes t

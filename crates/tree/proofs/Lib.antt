@@ -1,0 +1,4 @@
+pub mod BodyLaws
+pub mod TableLaws
+pub mod NormalLaws
+pub mod ExactLaws
