@@ -7,7 +7,6 @@ use Rattle.std.proofs.Common.{sym, arith, add-one}
 use Rattle.std.proofs.Math.Bool.{and-true, and-false, and_assoc}
 use Rattle.std.proofs.Math.Option.{Option-elim}
 use Rattle.std.proofs.Math.Dec.{leb, leb→le}
-use borrow.Author.Tests.{le-leb, lt-leb}
 use Rattle.octets.specs.Bytes.{le_at, ◌>>=◌}
 use Rattle.octets.specs.Tests.{and_left, and_right, cond_case, true_test}
 use Rattle.path.specs.Path.{is_path, path_of, unroot, parts_of}
@@ -38,15 +37,6 @@ abbrev pub text_in : List ℕ → Entry → List ℕ
 text_in pool e = text_at pool e.start e.len
 
 module _ (pool : List ℕ) (e : Entry) where
-  pub fits_out : length pool < e.start + e.len → false ≡ entry_fits pool e
-  unfolding entry_fits
-  fits_out h = rw (lt-leb (e.start + e.len) (length pool) h) refl
-
-  pub fits-is : e.start + e.len ≤ length pool → {t : List ℕ} {b₁ b₂ b₃ : Bool} → t ≡ text_in pool e → b₁ ≡ is_path t
-      → b₂ ≡ b₁ && leb 1 e.args → b₃ ≡ b₂ && leb e.args 7 → b₃ ≡ entry_fits pool e
-  unfolding entry_fits
-  fits-is h f₁ f₂ f₃ f₄ = rw (f₄, f₃, f₂, f₁, le-leb (e.start + e.len) (length pool) h) refl
-
   fits-most : T (entry_fits pool e) → e.args ≤ 7
   unfolding entry_fits
   fits-most h = leb→le e.args 7 (and_right (leb (e.start + e.len) (length pool) && is_path (text_in pool e) && leb 1 e.args) (leb e.args 7) h)

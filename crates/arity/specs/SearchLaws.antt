@@ -3,17 +3,15 @@
 -- Assumes nothing.
 use Rattle.std.specs.Prelude.{◌≡◌, true, ◌||◌, ℕ, zero, suc, ◌+◌, ◌-◌, ◌/◌, ◌<◌, ◌≤◌, length}
 use Rattle.std.proofs.Math.Path.{refl, sym, ap}
-use Rattle.std.proofs.Common.{◌∙◌, arith, add-one}
+use Rattle.std.specs.Cmp.Lexicographic.{slice_cmp}
+use Rattle.std.proofs.Common.{◌∙◌, arith, add-one, Ordering, Less, Equal, Greater, nat_cmp, is_lt, is_eq, is_gt}
 use mathlib.Core.List.{List, [], ◌∷◌, ◌++◌, map}
 use Rattle.std.proofs.Math.Dec.{T}
 use Rattle.octets.specs.Tests.{and_left, and_right, and_both, or_left, or_right, cond_true, cond_false, true_test}
 use Rattle.arity.specs.Arity.{entry_at, entries_of, entries_from, Arity, arity_in, arities_of, below, same, ascend, arities_fit, args_in, args_of}
-use Rattle.arity.specs.Order.{order_of}
-use Rattle.arity.specs.OrderLaws.{is_below, is_same, is_above, order_below, order_same, order-above, other, same-is, below_trans}
+use Rattle.arity.specs.OrderLaws.{order_below, order_same, order-above, other, same-is, below_trans}
 use Rattle.arity.specs.ArityLaws.{text_in, ascending}
 use Rattle.arity.specs.declared.Entry.{Entry}
-use Rattle.arity.specs.declared.Order.{Order}
-use Rattle.arity.specs.declared.Order.TheVariants as order
 
 -- ── Parts of an ascending list ascend, and its first is below each further one
 ascend-two : (a b : Arity) (l : List Arity) → T (ascend (a ∷ b ∷ l)) → T (below a.text b.text) × T (ascend (b ∷ l))
@@ -127,32 +125,32 @@ module _ {b pool t : List ℕ} {low high mid : ℕ} (h : Seeking b pool t low hi
   cut_up = rw (window-at b pool low mid high p q) at h.up
 
   -- how the text of entry mid stands to t
-  module _ {e : Entry} (f : e ≡ entry_at b mid) {s : List ℕ} (g : s ≡ text_in pool e) {o : Order} (k : o ≡ order_of s t) where
-    answer : order_of here.text t ≡ o
+  module _ {e : Entry} (f : e ≡ entry_at b mid) {s : List ℕ} (g : s ≡ text_in pool e) {o : Ordering} (k : o ≡ slice_cmp nat_cmp s t) where
+    answer : slice_cmp nat_cmp here.text t ≡ o
     unfolding arity_in
     answer = sym (rw (g, f) at k)
 
-    pub seeking_below : o ≡ order.Below → Seeking b pool t (mid + 1) high
+    pub seeking_below : o ≡ Less → Seeking b pool t (mid + 1) high
     seeking_below z =
-        let l : T (below here.text t) = true_test _ (sym (order_below here.text t) ∙ ap is_below (answer ∙ z)) in
+        let l : T (below here.text t) = true_test _ (sym (order_below here.text t) ∙ ap is_lt (answer ∙ z)) in
         record {
           is = sym (absent t here behind (or_left (below here.text t) (below t here.text) l)) ∙ sym (args_right t before here behind cut_up (λ s m. below_trans s here.text t m l)) ∙ cut-is;
           up = ascend_tail here behind (ascend_right before (here ∷ behind) cut_up);
           within = h.within;
         }
 
-    pub seeking_above : o ≡ order.Above → Seeking b pool t low mid
+    pub seeking_above : o ≡ Greater → Seeking b pool t low mid
     seeking_above z =
-        let l : T (below t here.text) = true_test _ (sym (order-above here.text t) ∙ ap is_above (answer ∙ z)) in
+        let l : T (below t here.text) = true_test _ (sym (order-above here.text t) ∙ ap is_gt (answer ∙ z)) in
         record {
           is = sym (args-left t before (here ∷ behind) (none_above t here behind (ascend_right before (here ∷ behind) cut_up) l)) ∙ cut-is;
           up = ascend-left before (here ∷ behind) cut_up;
           within = omega (arith, h.within);
         }
 
-    pub seeking_same : o ≡ order.Same → e.args ≡ args_of b pool t
+    pub seeking_same : o ≡ Equal → e.args ≡ args_of b pool t
     unfolding arity_in
     seeking_same z =
-        let l : T (same here.text t) = true_test _ (sym (order_same here.text t) ∙ ap is_same (answer ∙ z)) in
+        let l : T (same here.text t) = true_test _ (sym (order_same here.text t) ∙ ap is_eq (answer ∙ z)) in
         let m = same-is here.text t l in
         ap (λ (x : Entry). x.args) f ∙ present t here behind l ∙ sym (args_right t before here behind cut_up (λ s n. rw m at n)) ∙ cut-is

@@ -1,14 +1,9 @@
 -- What an accepted file describes: a forest, each term of which may stand where it does; and the records of such a forest are accepted.
 -- Document 01, "The term file" ("Records stand in preorder; the top level is a list").
 -- Assumes nothing.
-use Rattle.std.specs.Prelude.{◌≡◌, Bool, true, false, ◌&&◌, not, cond, eqb}
-use Rattle.std.proofs.Math.Path.{refl, ap, subst}
-use Rattle.std.proofs.Common.{sym, ◌∙◌, eqb-true, eq-eqb}
+use Rattle.std.specs.Prelude.{◌≡◌, Bool, true, false, ◌&&◌, not, cond, T, eqb, List, [], ◌∷◌, ◌++◌, map, ℕ, zero, suc, ◌-◌}
+use Rattle.std.proofs.Common.{refl, sym, ap, subst, ◌∙◌, arith, eqb-true, eq-eqb}
 use Rattle.std.proofs.Math.Option.{Option, none, some, some-injective}
-use mathlib.Core.List.{List, [], ◌∷◌, ◌++◌, map}
-use Prim.Native.Nat.{ℕ, zero, suc, ◌-◌}
-use native.Mathlib.Omega.{arith}
-use Rattle.std.proofs.Math.Dec.{T}
 use Rattle.std.proofs.lemmas.Bool.{eqb-false}
 use Rattle.octets.specs.Bytes.{◌>>=◌}
 use Rattle.octets.specs.Tests.{took₁, and_left, and_right, and_both}
@@ -22,10 +17,9 @@ use Rattle.fields.specs.Fields.{in_range, spelled}
 use Rattle.tree.specs.Fits.{fine, known, term_fits, Fits}
 use Rattle.term.specs.declared.Record.{Record}
 use Rattle.term.specs.Record.{records_from}
-use Rattle.term.specs.File.{layout_of}
+use Rattle.term.specs.File.{layout_of, record_section, arity_section, pool_section}
 use Rattle.arity.specs.Arity.{arities_fit, args_of}
-use Rattle.checker.specs.declared.Verdict.{Verdict}
-use Rattle.checker.specs.Refusal.{verdict, text_of, in_pool, place_fault, fault, fault_as, fault_of, Owed, owe, next, later, kids_of, scan, record_section, arity_section, pool_section, refusal_of}
+use Rattle.checker.specs.Refusal.{Verdict, verdict, text_of, in_pool, place_fault, fault, fault_as, fault_of, Owed, owe, next, later, kids_of, scan, refusal_of}
 use Rattle.checker.specs.Described.{forest_of, term_of}
 
 unfoldable pub InPool : List ℕ → List Record → Type 0
@@ -77,7 +71,8 @@ module _ (arities pool : List ℕ) where
             let (t₇, h₇) = chain_inv (counts row.rest row.operands (args_at p (args_of arities pool (text_of pool r))) r.kids) 6 _ h₆ in
             let (t₈, h₈) = chain_inv (stands row.places p) 7 _ h₇ in
             let t₉ = levels-left_inv (eqb l 0) h₈ in
-            let (t₃, t₄) : T (in_pool pool r) × T (in_range row (text_of pool r) r.a r.x) = (and_left (in_pool pool r) (in_range row (text_of pool r) r.a r.x) t₅, and_right (in_pool pool r) (in_range row (text_of pool r) r.a r.x) t₅) in
+            let t₃ : T (in_pool pool r) = and_left _ (in_range row (text_of pool r) r.a r.x) t₅ in
+            let t₄ : T (in_range row (text_of pool r) r.a r.x) = and_right (in_pool pool r) _ t₅ in
             (t₃, search and_both)
 
   -- ── What is owed, met by a forest, with terms of the top level behind

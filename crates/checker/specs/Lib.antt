@@ -1,4 +1,6 @@
 pub mod Refusal
+pub mod Said
+pub mod SaidLaws
 pub mod Walk
 pub mod WalkLaws
 pub mod FaultLaws

@@ -1,7 +1,7 @@
 -- When a term file is refused, with which number and at which record: 1, 2, 3; then the first faulty record, with its lowest number
 -- in 4 to 9; then 10. Document 01, "Refusal numbers".
 -- Assumes nothing.
-use Rattle.std.specs.Prelude.{Bool, ◌&&◌, ◌||◌, not, cond, List, [], ◌∷◌, ◌++◌, ℕ, zero, suc, ◌+◌, ◌-◌, eqb, leb, length, take, drop}
+use Rattle.std.specs.Prelude.{Bool, ◌&&◌, ◌||◌, not, cond, List, [], ◌∷◌, ◌++◌, ℕ, zero, suc, ◌+◌, ◌-◌, eqb, leb, length}
 use Rattle.std.proofs.Math.Option.{Option, none, some}
 use Rattle.grammar.specs.declared.Place.{Place}
 use Rattle.grammar.specs.declared.Place.TheVariants.{InList}
@@ -11,9 +11,14 @@ use Rattle.grammar.specs.Kinds.{stands, child_place, counts, args_at, row_of, ro
 use Rattle.fields.specs.Fields.{in_range, spelled}
 use Rattle.term.specs.declared.Record.{Record}
 use Rattle.term.specs.File.{layout_of}
+pub use Rattle.term.specs.File.{part, record_section, arity_section, pool_section}
 use Rattle.term.specs.Record.{records_from, text_at}
 use Rattle.arity.specs.Arity.{arities_fit, args_of}
-use Rattle.checker.specs.declared.Verdict.{Verdict}
+
+-- a refusal's number and the record at which it was found; 0: none of 1 to 10 holds
+pub record Verdict : Type 0 where
+  pub number : ℕ
+  pub index : ℕ
 
 abbrev pub verdict : ℕ → ℕ → Verdict
 verdict number index = record { number = number; index = index }
@@ -77,18 +82,6 @@ scan arities pool (r ∷ rs) i q =
     (verdict (fault_of arities pool (next q).place (next q).levels r) i)
 
 -- ── The file
-abbrev pub part : List ℕ → ℕ → ℕ → List ℕ
-part f from to = take (to - from) (drop from f)
-
-abbrev pub record_section : List ℕ → List ℕ
-record_section f = part f 60 (layout_of f).arities
-
-abbrev pub arity_section : List ℕ → List ℕ
-arity_section f = part f (layout_of f).arities (layout_of f).pool
-
-abbrev pub pool_section : List ℕ → List ℕ
-pool_section f = part f (layout_of f).pool (length f)
-
 -- 0: none of 1 to 10 holds
 unfoldable pub refusal_of : List ℕ → Verdict
 refusal_of f =

@@ -1,22 +1,15 @@
 -- The same scan as the code makes it: a term and, one level down, its children. Each step takes the records and returns the rest.
 -- Assumes nothing.
-use Rattle.std.specs.Prelude.{◌≡◌, Bool, not, ◌&&◌, cond}
-use Rattle.std.proofs.Math.Path.{refl}
-use Rattle.std.proofs.Common.{◌∙◌, eqb-true}
-use Rattle.std.proofs.Math.Bool.{true, false}
+use Rattle.std.specs.Prelude.{◌≡◌, Bool, true, false, not, ◌&&◌, cond, eqb, List, [], ◌∷◌, ◌++◌, ℕ, zero, suc}
+use Rattle.std.proofs.Common.{refl, ◌∙◌, eqb-true, sub-one}
 use Rattle.std.proofs.Math.Option.{Option, none, some}
-use mathlib.Core.List.{List, [], ◌∷◌, ◌++◌}
-use Prim.Native.Nat.{ℕ, zero, suc}
-use Rattle.std.proofs.Math.Numerals.{sub-one}
-use Rattle.std.proofs.Math.Dec.{eqb}
 use Rattle.grammar.specs.declared.Place.{Place}
 use Rattle.grammar.specs.declared.Row.{Row}
 use Rattle.grammar.specs.Kinds.{child_place, row_of, stands, counts, args_at, row_in}
 use Rattle.fields.specs.Fields.{in_range, spelled}
 use Rattle.term.specs.declared.Record.{Record}
 use Rattle.arity.specs.Arity.{args_of}
-use Rattle.checker.specs.declared.Verdict.{Verdict}
-use Rattle.checker.specs.Refusal.{verdict, text_of, in_pool, place_fault, fault, fault_as, fault_of, Owed, owe, next, later, kids_of, scan}
+use Rattle.checker.specs.Refusal.{Verdict, verdict, text_of, in_pool, place_fault, fault, fault_as, fault_of, Owed, owe, next, later, kids_of, scan}
 
 -- number 0, and the records from `next` on are still to be looked at; or the number, and the index of the fault
 pub record Step : Type 0 where

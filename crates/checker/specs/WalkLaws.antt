@@ -1,15 +1,14 @@
 -- How the code meets the walk: at an index, from the facts that its tests and calls tell.
 -- Assumes nothing.
-use Rattle.std.specs.Prelude.{◌≡◌, length}
-use Rattle.std.proofs.Math.Path.{refl, sym}
-use Rattle.std.proofs.Common.{◌∙◌, arith, eq-eqb, ne_eqb}
-use Rattle.std.proofs.Math.Bool.{false}
+use Rattle.std.specs.Prelude.{◌≡◌, false, List, [], ◌∷◌, length, ℕ, zero, suc, ◌+◌, ◌-◌, ◌/◌, ◌≤◌, ◌<◌, eqb, Result, MatchResult}
+use Rattle.std.proofs.Common.{refl, sym, ◌∙◌, arith, eq-eqb, ne_eqb, add-one, sub-one}
 use Rattle.std.proofs.Math.Option.{some}
-use mathlib.Core.List.{List, [], ◌∷◌}
-use Prim.Native.Nat.{ℕ, zero, suc, ◌+◌, ◌-◌, ◌/◌, ◌≤◌, ◌<◌}
-use Rattle.std.proofs.Math.Numerals.{add-one, sub-one}
-use Rattle.std.proofs.Math.Dec.{eqb}
 use Rattle.std.proofs.lemmas.Bool.{eqb-false}
+use Rattle.refusal.specs.declared.Fault.{Fault}
+use Rattle.refusal.specs.declared.Refusal.{Refusal}
+use Rattle.refusal.specs.declared.Refusal.TheVariants.{RecordsEnd}
+use Rattle.refusal.specs.Number.{number}
+use Rattle.refusal.specs.NumberLaws.{number-positive}
 use Rattle.grammar.specs.declared.Place.{Place}
 use Rattle.grammar.specs.declared.Place.TheVariants.{InList}
 use Rattle.grammar.specs.declared.Row.{Row}
@@ -17,16 +16,33 @@ use Rattle.grammar.specs.Kinds.{child_place, row_of, row_in}
 use Rattle.term.specs.declared.Record.{Record}
 use Rattle.term.specs.Record.{record_at, records_from}
 use Rattle.term.specs.RecordLaws.{records-more, records-none}
-use Rattle.checker.specs.declared.Verdict.{Verdict}
-use Rattle.checker.specs.Refusal.{verdict, fault_of, scan, next, later}
+use Rattle.checker.specs.Refusal.{Verdict, verdict, fault_of, scan, next, later}
 use Rattle.checker.specs.Walk.{Step, after, kids, check, follow, fault-low, check-scan}
 
--- number and next are those of the step s, and its rest are the records from next on; without a fault, next is not before `from`
-pub record Told (s : Step) (records : List ℕ) (from number next : ℕ) : Type 0 where
-  pub says : number ≡ s.number
-  pub at : next ≡ s.next
-  pub ends : s.rest ≡ records_from records next
-  pub moves : from ≤ next + number
+-- the step s found no fault: the records from `next` on, which is not before `from`, are still to be looked at
+pub record Passed (s : Step) (records : List ℕ) (from next : ℕ) : Type 0 where
+  pub is : s ≡ record { number = 0; next = next; rest = records_from records next }
+  pub moves : from ≤ next
+
+-- the step s found the fault f
+pub record Failed (s : Step) (f : Fault) : Type 0 where
+  pub says : s.number ≡ number f.refusal
+  pub at : s.next ≡ f.index
+
+-- what an answer tells of the step s
+abbrev pub Told : Step → List ℕ → ℕ → Result ℕ Fault → Type 0
+Told s records from r = MatchResult r (Passed s records from) (Failed s)
+
+module _ {s : Step} {f : Fault} (t : Failed s f) where
+  pub failed-number : s.number ≡ 0 → ⊥
+  failed-number z = let h = number-positive f.refusal in let e = sym t.says ∙ z in omega arith
+
+-- with no level left there is always a fault
+low-fault : (arities pool : List ℕ) (l : ℕ) (p : Place) (r : Record) → 0 ≡ fault_of arities pool p l r → l ≡ 0 → ⊥
+low-fault arities pool l p r z y = eqb-false (fault_of arities pool p l r) 0 (rw y (fault-low arities pool p r)) (sym z)
+
+pub some_level : (arities pool : List ℕ) (l : ℕ) (p : Place) (r : Record) → 0 ≡ fault_of arities pool p l r → 0 < l
+some_level arities pool l p r z = let h : l ≡ 0 → ⊥ = low-fault arities pool l p r z in omega arith
 
 module _ (arities pool records : List ℕ) (l : ℕ) (p : Place) (i : ℕ) where
   -- ── Where the records end
@@ -38,11 +54,11 @@ module _ (arities pool records : List ℕ) (l : ℕ) (p : Place) (i : ℕ) where
       ended zero = refl
       ended (suc l) = refl
 
-  pub told_end : length records / 24 ≤ i → Told (check arities pool l p (records_from records i) i) records (i + 1) 10 i
-  told_end h = let e = records-none records i h in rw (e, check-nil) (record { says = refl; at = refl; ends = sym e; moves = omega arith })
+  pub told_end : length records / 24 ≤ i → Failed (check arities pool l p (records_from records i) i) (record { refusal = RecordsEnd; index = i })
+  told_end h = rw (records-none records i h, check-nil) (record { says = refl; at = refl })
 
   -- ── At a record
-  module _ {r : Record} {n : ℕ} (h : i < length records / 24) (e : r ≡ record_at records i) (f : n ≡ fault_of arities pool p l r) where
+  module _ {r : Record} (h : i < length records / 24) (e : r ≡ record_at records i) where
     more : records_from records i ≡ r ∷ records_from records (i + 1)
     more = rw e (records-more records i h)
 
@@ -54,32 +70,25 @@ module _ (arities pool records : List ℕ) (l : ℕ) (p : Place) (i : ℕ) where
         at zero z = refl
         at (suc l) z = rw z refl
 
-    pub told-fault : (n ≡ 0 → ⊥) → Told (check arities pool l p (records_from records i) i) records (i + 1) n i
-    told-fault x =
-        rw (more, refused (records_from records (i + 1)) (ne_eqb _ 0 (rw f at x))) (record { says = f; at = refl; ends = sym more; moves = omega arith })
+    pub told-fault : {x : Refusal} → number x ≡ fault_of arities pool p l r → Failed (check arities pool l p (records_from records i) i) (record { refusal = x; index = i })
+    told-fault {x} f =
+        let h = number-positive x in
+        rw (more, refused (records_from records (i + 1)) (ne_eqb _ 0 (λ z. omega (arith, f, z)))) (record { says = sym f; at = refl })
 
-    -- with no level left there is always a fault
-    low-fault : l ≡ 0 → n ≡ 0 → ⊥
-    low-fault z x = eqb-false (fault_of arities pool p l r) 0 (rw z (fault-low arities pool p r)) (sym f ∙ x)
+    module _ (z : 0 ≡ fault_of arities pool p l r) where
+      accepted : (rs : List Record) → check arities pool l p (r ∷ rs) i ≡ kids (check arities pool (l - 1)) (row_in (row_of r.kind)) r.kids 0 rs (i + 1)
+      unfolding check
+      accepted rs = at l (low-fault arities pool l p r z) z
+        where
+          at : (l : ℕ) → (l ≡ 0 → ⊥) → 0 ≡ fault_of arities pool p l r
+              → check arities pool l p (r ∷ rs) i ≡ kids (check arities pool (l - 1)) (row_in (row_of r.kind)) r.kids 0 rs (i + 1)
+          at zero y z = absurd (y refl)
+          at (suc l) y z = rw (eq-eqb (fault_of arities pool p (suc l) r) 0 (sym z), sub-one (suc l), add-one i) refl
 
-    pub some_level : n ≡ 0 → 0 < l
-    some_level x = let h : l ≡ 0 → ⊥ = λ z. low-fault z x in omega arith
-
-    accepted : (rs : List Record) → (l ≡ 0 → ⊥) → fault_of arities pool p l r ≡ 0
-        → check arities pool l p (r ∷ rs) i ≡ kids (check arities pool (l - 1)) (row_in (row_of r.kind)) r.kids 0 rs (i + 1)
-    unfolding check
-    accepted rs z x = at l z x
-      where
-        at : (l : ℕ) → (l ≡ 0 → ⊥) → fault_of arities pool p l r ≡ 0
-            → check arities pool l p (r ∷ rs) i ≡ kids (check arities pool (l - 1)) (row_in (row_of r.kind)) r.kids 0 rs (i + 1)
-        at zero z x = absurd (z refl)
-        at (suc l) z x = rw (eq-eqb (fault_of arities pool p (suc l) r) 0 x, sub-one (suc l), add-one i) refl
-
-    pub told-kids : {row : Row} {k m : ℕ} → row_of r.kind ≡ some row → n ≡ 0
-        → Told (kids (check arities pool (l - 1)) row r.kids 0 (records_from records (i + 1)) (i + 1)) records (i + 1) k m
-        → Told (check arities pool l p (records_from records i) i) records (i + 1) k m
-    unfolding row_in
-    told-kids g x t = rw (more, accepted (records_from records (i + 1)) (λ z. low-fault z x) (sym f ∙ x), g) t
+      pub told-kids : {row : Row} → row_of r.kind ≡ some row
+          → check arities pool l p (records_from records i) i ≡ kids (check arities pool (l - 1)) row r.kids 0 (records_from records (i + 1)) (i + 1)
+      unfolding row_in
+      told-kids g = rw (more, accepted (records_from records (i + 1)), g) refl
 
 -- ── The children's loop: what is left gives the whole, whose first child stands at `from`
 pub record Going (g : Place → List Record → ℕ → Step) (row : Row) (records : List ℕ) (whole : Step) (from n j next : ℕ) : Type 0 where
@@ -102,28 +111,27 @@ after-bad : (s : Step) (k : List Record → ℕ → Step) → (s.number ≡ 0 �
 unfolding after
 after-bad s k x = rw (ne_eqb s.number 0 x) refl
 
-after-good : (s : Step) (k : List Record → ℕ → Step) → s.number ≡ 0 → after s k ≡ k s.rest s.next
+after-good : (s : Step) (k : List Record → ℕ → Step) {next : ℕ} {rest : List Record} → s ≡ record { number = 0; next = next; rest = rest } → after s k ≡ k rest next
 unfolding after
-after-good s k x = rw (eq-eqb s.number 0 x) refl
+after-good s k e = rw e refl
 
 module _ {g : Place → List Record → ℕ → Step} {row : Row} {records : List ℕ} {whole : Step} {from n j next : ℕ} (h : Going g row records whole from n j next) where
-  pub going_end : n ≤ j → Told whole records from 0 next
-  going_end z =
-      rw (sym h.gives, kids-none g row (n - j) j (records_from records next) next (omega arith))
-      (record { says = refl; at = refl; ends = refl; moves = omega (arith, h.moved) })
+  pub going_end : n ≤ j → Passed whole records from next
+  going_end z = record {
+    is = sym h.gives ∙ kids-none g row (n - j) j (records_from records next) next (omega arith);
+    moves = h.moved;
+  }
 
-  module _ {p : Place} {k m : ℕ} (z : j < n) (e : p ≡ child_place row j) (t : Told (g p (records_from records next) next) records (next + 1) k m) where
+  module _ {p : Place} (z : j < n) (e : p ≡ child_place row j) where
     turned : after (g p (records_from records next) next) (kids g row (n - (j + 1)) (j + 1)) ≡ whole
     turned = rw (sym h.gives, kids-more g row (n - j) (n - (j + 1)) j (records_from records next) next (omega arith), e) refl
 
-    pub going_bad : (k ≡ 0 → ⊥) → Told whole records from k m
-    going_bad x =
-        rw (sym turned, after-bad (g p (records_from records next) next) (kids g row (n - (j + 1)) (j + 1)) (rw t.says at x))
-        (record { says = t.says; at = t.at; ends = t.ends; moves = omega (arith, t.moves, h.moved) })
+    pub going_bad : {f : Fault} → Failed (g p (records_from records next) next) f → Failed whole f
+    going_bad t = rw (sym turned, after-bad (g p (records_from records next) next) (kids g row (n - (j + 1)) (j + 1)) (failed-number t)) t
 
-    pub going_turn : k ≡ 0 → Going g row records whole from n (j + 1) m
-    going_turn x = record {
-      gives = rw (sym turned, after-good (g p (records_from records next) next) (kids g row (n - (j + 1)) (j + 1)) (sym t.says ∙ x), t.ends, ← t.at) refl;
+    pub going_turn : {m : ℕ} → Passed (g p (records_from records next) next) records (next + 1) m → Going g row records whole from n (j + 1) m
+    going_turn t = record {
+      gives = sym (after-good _ (kids g row (n - (j + 1)) (j + 1)) t.is) ∙ turned;
       moved = omega (arith, t.moves, h.moved);
     }
 
@@ -136,17 +144,17 @@ module _ {arities pool records : List ℕ} {whole : Verdict} {i : ℕ} (h : Scan
   unfolding scan
   scanned z = rw (records-none records i z) at h.gives
 
-  module _ {k m : ℕ} (z : i < length records / 24) (t : Told (check arities pool 64 InList (records_from records i) i) records (i + 1) k m) where
+  module _ (z : i < length records / 24) where
     followed : follow arities pool (check arities pool 64 InList (records_from records i) i) [] ≡ whole
     unfolding scan next later
     followed =
         sym (check-scan arities pool 64 InList (records_from records i) i [])
         ∙ (rw (records-more records i z) refl ∙ h.gives)
 
-    pub scan-bad : (k ≡ 0 → ⊥) → verdict k m ≡ whole
+    pub scan-bad : {f : Fault} → Failed (check arities pool 64 InList (records_from records i) i) f → verdict (number f.refusal) f.index ≡ whole
     unfolding follow
-    scan-bad x = rw (t.says, t.at) (rw (ne_eqb _ 0 (rw t.says at x)) at followed)
+    scan-bad t = rw (sym t.says, sym t.at) (rw (ne_eqb _ 0 (failed-number t)) at followed)
 
-    pub scan_turn : k ≡ 0 → Scanning arities pool records whole m
+    pub scan_turn : {m : ℕ} → Passed (check arities pool 64 InList (records_from records i) i) records (i + 1) m → Scanning arities pool records whole m
     unfolding follow
-    scan_turn x = record { gives = rw (eq-eqb _ 0 (sym t.says ∙ x), t.ends, ← t.at) at followed }
+    scan_turn t = record { gives = rw t.is at followed }

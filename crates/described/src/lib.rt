@@ -6,8 +6,6 @@
 
 ghost use Rattle.std.specs.Prelude.{◌≡◌, length};
 
-use std::num::{wrapping_add_u64, wrapping_add_usize, wrapping_sub_usize};
-
 // Room for 65,537 records.
 pub fn huge_buffer() -> [u8; 1600000]
     ensures { 1600000 ≡ length result }
@@ -15,202 +13,123 @@ pub fn huge_buffer() -> [u8; 1600000]
     [0; 1600000]
 }
 
-// The parts of a line.
-const RECORDS: u64 = 0;
-
-const ENTRIES: u64 = 1;
-
-const TEXT: u64 = 2;
-
-const BYTES: u64 = 3;
-
-const HEADER: u64 = 4;
-
-const CUT: u64 = 5;
-
-const DONE: u64 = 6;
-
 // ── Bytes
 // Each writer tests its own room, and sums of positions wrap: nothing has to be shown of them, and none comes near the limit.
 
-// The low n bytes of x, where there is room.
+// The low n bytes of x, where there is room for eight.
 pub fn put(n: usize, x: u64, at: usize, out: &mut [u8]) {
-    if 8 < n {
-        return;
+    if let Some(room) = out.get_mut(at..)
+        && 8 <= room.len()
+        && n <= 8
+    {
+        octets::put_le(n, x, room);
     }
-    if out.len() < at {
-        return;
-    }
-    if out.len() - at < 8 {
-        return;
-    }
-    octets::put_le(n, x, &mut out[at..]);
 }
 
-fn copy_back(i: usize, back: usize, out: &mut [u8]) {
-    if out.len() <= i {
-        return;
+// What stands in the first `stride` bytes, again and again to the end.
+fn repeat(stride: usize, room: &mut [u8]) {
+    for i in stride..room.len() {
+        room[i] = room[i - stride];
     }
-    if i < back {
-        return;
-    }
-    out[i] = out[i - back];
 }
 
-// What stands in the `stride` bytes at `at`, again and again up to `end`.
-fn repeat(at: usize, stride: usize, end: usize, out: &mut [u8]) {
-    let mut i = wrapping_add_usize(at, stride);
-    while i < end {
-        copy_back(i, stride, out);
-        i = i + 1;
+// ── The parts of a line, in their order
+
+#[derive(Clone, Copy)]
+enum Part {
+    Records,
+    Entries,
+    Text,
+    Bytes,
+    Header,
+    Cut,
+    Done,
+}
+
+impl Part {
+    fn next(self) -> Part {
+        match self {
+            Part::Records => Part::Entries,
+            Part::Entries => Part::Text,
+            Part::Text => Part::Bytes,
+            Part::Bytes => Part::Header,
+            Part::Header => Part::Cut,
+            Part::Cut | Part::Done => Part::Done,
+        }
+    }
+
+    // The bytes of a record.
+    fn stride(self) -> usize {
+        match self {
+            Part::Records => 24,
+            Part::Entries => 8,
+            Part::Text | Part::Bytes | Part::Done => 1,
+            Part::Header => 4,
+            Part::Cut => 0,
+        }
+    }
+
+    // What a number is before any letter.
+    fn field(self) -> Option<Field> {
+        match self {
+            Part::Records => Some(Field::new(0, 2)),
+            Part::Header => Some(Field::new(0, 4)),
+            Part::Cut => None,
+            Part::Entries | Part::Text | Part::Bytes | Part::Done => Some(Field::new(0, 1)),
+        }
+    }
+
+    // What a number is behind a letter.
+    fn lettered(self, letter: u8) -> Option<Field> {
+        match (self, letter) {
+            (Part::Entries, b's') => Some(Field::new(0, 4)),
+            (Part::Entries, b'l') => Some(Field::new(4, 2)),
+            (Part::Entries, b'n') => Some(Field::new(6, 2)),
+            (Part::Entries, _) => None,
+            (_, b'a') => Some(Field::new(2, 2)),
+            (_, b'n') => Some(Field::new(4, 4)),
+            (_, b'x') => Some(Field::new(8, 8)),
+            (_, b's') => Some(Field::new(16, 4)),
+            (_, b'l') => Some(Field::new(20, 4)),
+            (_, _) => None,
+        }
+    }
+}
+
+// A field of a record: where it stands in it, and how many bytes it has.
+#[derive(Clone, Copy)]
+struct Field {
+    at: usize,
+    width: usize,
+}
+
+impl Field {
+    fn new(at: usize, width: usize) -> Field {
+        Field { at, width }
     }
 }
 
 // ── Describing a file
 
-// Where a description is being written: its part; the record, the field in it and its width, and the number so far.
-// Width 0 is no field: the number says how often the record stands. `count` is how many stand already, `end` the file's end.
+// Where a description is being written: its part, the record, and the field in it; with no field, the number says how often the
+// record stands. No number is before the record. `count` is how many stand already, `end` the file's end.
 #[derive(Clone, Copy)]
 struct Pen {
-    part: u64,
+    part: Part,
     at: usize,
-    field: usize,
-    width: usize,
-    value: u64,
-    blank: bool,
+    field: Option<Field>,
+    number: Option<u64>,
     count: u64,
     end: usize,
 }
 
-// The bytes of a record in each part.
-fn stride_of(part: u64) -> usize {
-    if part == RECORDS {
-        return 24;
+// The value of a hexadecimal digit.
+fn digit(b: u8) -> Option<u64> {
+    match b {
+        b'0'..=b'9' => Some(u64::from(b - b'0')),
+        b'A'..=b'F' => Some(u64::from(b - b'A') + 10),
+        _ => None,
     }
-    if part == ENTRIES {
-        return 8;
-    }
-    if part == HEADER {
-        return 4;
-    }
-    if part == CUT {
-        return 0;
-    }
-    1
-}
-
-// The width of a number before any letter.
-fn width_of(part: u64) -> usize {
-    if part == RECORDS {
-        return 2;
-    }
-    if part == HEADER {
-        return 4;
-    }
-    if part == CUT {
-        return 0;
-    }
-    1
-}
-
-// Before the record at `at`.
-fn pen_at(part: u64, at: usize, count: u64, end: usize) -> Pen {
-    Pen {
-        part,
-        at,
-        field: 0,
-        width: width_of(part),
-        value: 0,
-        blank: true,
-        count,
-        end,
-    }
-}
-
-// In the record, at a field.
-fn pen_in(p: Pen, field: usize, width: usize) -> Pen {
-    Pen {
-        part: p.part,
-        at: p.at,
-        field,
-        width,
-        value: 0,
-        blank: false,
-        count: p.count,
-        end: p.end,
-    }
-}
-
-// The value of a hexadecimal digit; 16 for any other byte.
-fn digit(b: u8) -> u64 {
-    if b < b'0' {
-        return 16;
-    }
-    if b <= b'9' {
-        return (b - b'0') as u64;
-    }
-    if b < b'A' {
-        return 16;
-    }
-    if b <= b'F' {
-        return (b - b'A') as u64 + 10;
-    }
-    16
-}
-
-fn put_digit(p: Pen, d: u64, out: &mut [u8]) -> Pen {
-    let value = p.value % 0x1000000000000000 * 16 + d % 16;
-    put(p.width, value, wrapping_add_usize(p.at, p.field), out);
-    Pen {
-        part: p.part,
-        at: p.at,
-        field: p.field,
-        width: p.width,
-        value,
-        blank: false,
-        count: p.count,
-        end: p.end,
-    }
-}
-
-fn record_field(p: Pen, letter: u8) -> Pen {
-    if letter == b'a' {
-        return pen_in(p, 2, 2);
-    }
-    if letter == b'n' {
-        return pen_in(p, 4, 4);
-    }
-    if letter == b'x' {
-        return pen_in(p, 8, 8);
-    }
-    if letter == b's' {
-        return pen_in(p, 16, 4);
-    }
-    if letter == b'l' {
-        return pen_in(p, 20, 4);
-    }
-    pen_in(p, 0, 0)
-}
-
-// An arity entry: s and l its text, n the number of arguments.
-fn entry_field(p: Pen, letter: u8) -> Pen {
-    if letter == b's' {
-        return pen_in(p, 0, 4);
-    }
-    if letter == b'l' {
-        return pen_in(p, 4, 2);
-    }
-    if letter == b'n' {
-        return pen_in(p, 6, 2);
-    }
-    pen_in(p, 0, 0)
-}
-
-fn times(p: Pen) -> u64 {
-    if p.width == 0 {
-        return p.value;
-    }
-    1
 }
 
 // The bytes of n records; none beyond what is ever asked.
@@ -218,145 +137,154 @@ fn span(n: u64, stride: usize) -> usize {
     if 0x20000 < n {
         return 0;
     }
-    if stride == 24 {
-        return n as usize * 24;
-    }
-    if stride == 8 {
-        return n as usize * 8;
-    }
-    if stride == 4 {
-        return n as usize * 4;
-    }
-    if stride == 1 {
-        return n as usize;
-    }
-    0
+    (n as usize).wrapping_mul(stride)
 }
 
-// The record is complete.
-fn put_record(p: Pen, out: &mut [u8]) -> Pen {
-    let n = times(p);
-    let stride = stride_of(p.part);
-    let end = wrapping_add_usize(p.at, span(n, stride));
-    repeat(p.at, stride, end, out);
-    pen_at(p.part, end, wrapping_add_u64(p.count, n), p.end)
-}
-
-fn put_text(p: Pen, b: u8, out: &mut [u8]) -> Pen {
-    put(1, octets::wide(b), p.at, out);
-    pen_at(
-        p.part,
-        wrapping_add_usize(p.at, 1),
-        wrapping_add_u64(p.count, 1),
-        p.end,
-    )
-}
-
-// The part is complete: its count, and where the next one stands, go into the header.
-fn put_part(p: Pen, out: &mut [u8]) -> Pen {
-    if p.part == RECORDS {
-        put(4, 0x4D524554, 0, out);
-        put(4, p.count, 4, out);
-        put(4, 60, 8, out);
-        put(4, p.at as u64, 16, out);
-        return pen_at(ENTRIES, p.at, 0, 0);
-    }
-    if p.part == ENTRIES {
-        put(4, p.count, 12, out);
-        put(4, p.at as u64, 24, out);
-        return pen_at(TEXT, p.at, 0, 0);
-    }
-    if p.part == TEXT {
-        return pen_at(BYTES, p.at, p.count, 0);
-    }
-    if p.part == BYTES {
-        put(4, p.count, 20, out);
-        return pen_at(HEADER, 0, 0, p.at);
-    }
-    if p.part == HEADER {
-        return pen_at(CUT, 0, 0, p.end);
-    }
-    if p.part == CUT {
-        return pen_at(DONE, 0, 0, wrapping_sub_usize(p.end, p.count as usize));
-    }
-    p
-}
-
-fn next_part(p: Pen, out: &mut [u8]) -> Pen {
-    if p.blank {
-        return put_part(p, out);
-    }
-    let q = put_record(p, out);
-    put_part(q, out)
-}
-
-fn put_glyph(p: Pen, b: u8, out: &mut [u8]) -> Pen {
-    if b == b' ' {
-        return p;
-    }
-    if b == b';' {
-        return next_part(p, out);
-    }
-    if p.part == TEXT {
-        return put_text(p, b, out);
-    }
-    if b == b',' {
-        return put_record(p, out);
-    }
-    let d = digit(b);
-    if d < 16 {
-        return put_digit(p, d, out);
-    }
-    if p.part == ENTRIES {
-        return entry_field(p, b);
-    }
-    record_field(p, b)
-}
-
-pub fn byte_at(b: &[u8], i: usize) -> u8 {
-    if i < b.len() {
-        return b[i];
-    }
-    0
-}
-
-// Behind a line every part that it leaves out ends too.
-fn glyph_at(b: &[u8], i: usize, to: usize) -> u8 {
-    if i < to {
-        return byte_at(b, i);
-    }
-    b';'
-}
-
-// The file that the line from `from` to `to` describes, and its length.
-pub fn put_file(b: &[u8], from: usize, to: usize, out: &mut [u8]) -> usize {
-    let mut p = pen_at(RECORDS, 60, 0, 0);
-    let last = wrapping_add_usize(to, 6);
-    let mut i = from;
-    while i < last {
-        p = put_glyph(p, glyph_at(b, i, to), out);
-        i = i + 1;
-    }
-    p.end
-}
-
-// Where `mark` first stands in a line, or where the line ends.
-pub fn mark_at(b: &[u8], mark: u8, from: usize, to: usize) -> usize {
-    let mut i = from;
-    while i < to {
-        if byte_at(b, i) == mark {
-            return i;
+impl Pen {
+    fn new() -> Pen {
+        Pen {
+            part: Part::Records,
+            at: 60,
+            field: Part::Records.field(),
+            number: None,
+            count: 0,
+            end: 0,
         }
-        i = i + 1;
     }
-    to
+
+    // Before the record at `at`, with `count` behind it.
+    fn before(self, at: usize, count: u64) -> Pen {
+        Pen {
+            at,
+            field: self.part.field(),
+            number: None,
+            count,
+            ..self
+        }
+    }
+
+    fn put_digit(self, d: u64, out: &mut [u8]) -> Pen {
+        let number = self.number.unwrap_or(0) % 0x1000000000000000 * 16 + d % 16;
+        if let Some(f) = self.field {
+            put(f.width, number, self.at.wrapping_add(f.at), out);
+        }
+        Pen {
+            number: Some(number),
+            ..self
+        }
+    }
+
+    fn put_letter(self, letter: u8) -> Pen {
+        Pen {
+            field: self.part.lettered(letter),
+            number: Some(0),
+            ..self
+        }
+    }
+
+    fn times(self) -> u64 {
+        match self.field {
+            None => self.number.unwrap_or(0),
+            Some(_) => 1,
+        }
+    }
+
+    // The record is complete.
+    fn put_record(self, out: &mut [u8]) -> Pen {
+        let n = self.times();
+        let stride = self.part.stride();
+        let end = self.at.wrapping_add(span(n, stride));
+        let last = end.min(out.len());
+        if let Some(room) = out.get_mut(self.at..last) {
+            repeat(stride, room);
+        }
+        self.before(end, self.count.wrapping_add(n))
+    }
+
+    fn put_text(self, b: u8, out: &mut [u8]) -> Pen {
+        put(1, u64::from(b), self.at, out);
+        self.before(self.at.wrapping_add(1), self.count.wrapping_add(1))
+    }
+
+    // The part is complete: its count, and where the next one stands, go into the header.
+    fn put_part(self, out: &mut [u8]) {
+        match self.part {
+            Part::Records => {
+                put(4, 0x4D524554, 0, out);
+                put(4, self.count, 4, out);
+                put(4, 60, 8, out);
+                put(4, self.at as u64, 16, out);
+            }
+            Part::Entries => {
+                put(4, self.count, 12, out);
+                put(4, self.at as u64, 24, out);
+            }
+            Part::Bytes => put(4, self.count, 20, out),
+            Part::Text | Part::Header | Part::Cut | Part::Done => {}
+        }
+    }
+
+    // At the start of the next part. The pool is counted over text and bytes.
+    fn turned(self) -> Pen {
+        let next = Pen {
+            part: self.part.next(),
+            ..self
+        };
+        match self.part {
+            Part::Records | Part::Entries => next.before(self.at, 0),
+            Part::Text => next.before(self.at, self.count),
+            Part::Bytes => Pen {
+                end: self.at,
+                ..next
+            }
+            .before(0, 0),
+            Part::Header => next.before(0, 0),
+            Part::Done => self,
+            Part::Cut => Pen {
+                end: self.end.wrapping_sub(self.count as usize),
+                ..next
+            }
+            .before(0, 0),
+        }
+    }
+
+    fn end_part(self, out: &mut [u8]) -> Pen {
+        let pen = match self.number {
+            None => self,
+            Some(_) => self.put_record(out),
+        };
+        pen.put_part(out);
+        pen.turned()
+    }
+
+    fn put_glyph(self, b: u8, out: &mut [u8]) -> Pen {
+        match (self.part, b) {
+            (_, b' ') => self,
+            (_, b';') => self.end_part(out),
+            (Part::Text, _) => self.put_text(b, out),
+            (_, b',') => self.put_record(out),
+            (_, _) => match digit(b) {
+                Some(d) => self.put_digit(d, out),
+                None => self.put_letter(b),
+            },
+        }
+    }
 }
 
-// Where a line's name ends: behind =, or where the line ends.
-pub fn name_end(b: &[u8], from: usize, to: usize) -> usize {
-    let i = mark_at(b, b'=', from, to);
-    if i < to {
-        return i + 1;
+// The file that `line` describes, and its length. Behind the line every part that it leaves out ends too.
+pub fn put_file(line: &[u8], out: &mut [u8]) -> usize {
+    let mut pen = Pen::new();
+    for b in line {
+        pen = pen.put_glyph(*b, out);
     }
-    to
+    for _ in 0..6 {
+        pen = pen.end_part(out);
+    }
+    pen.end
+}
+
+// What stands before the first `mark` and what behind it, where there is one.
+pub fn split_once(line: &[u8], mark: u8) -> Option<(&[u8], &[u8])> {
+    let at = line.iter().position(|b| *b == mark)?;
+    Some((&line[..at], &line[at + 1..]))
 }

@@ -7,6 +7,8 @@ use mathlib.Core.List.{List, [], ◌∷◌, ◌++◌, flatten, append_assoc, app
 use native.Mathlib.Omega.{arith}
 use Rattle.std.proofs.Math.Nat.{pow-le-pow_right, lt_of_lt_of_le}
 use Rattle.std.proofs.Math.Dec.{T, leb→le, ltb→lt, eqb→eq}
+use Rattle.std.proofs.Common.{leb, ltb}
+use Rattle.std.proofs.lemmas.Bool.{ltb-false}
 use borrow.Author.Tests.{lt-ltb, le-ltb, le-leb, lt-leb, eq-eqb, ne_eqb}
 use Rattle.octets.specs.Bytes.{every, is_byte, le, value, le_at}
 use Rattle.octets.specs.Tests.{and_left, and_right, or_case, cond_case, true_test}
@@ -61,6 +63,10 @@ module _ (kind : ℕ) (n₁ : kind ≡ 0xE047 → ⊥) (n₂ : kind ≡ 0xE082 �
   unfolding row_of columns_of value
   no_row = rw (ne_eqb kind _ n₁, ne_eqb kind _ n₂, ne_eqb kind _ n₃, ne_eqb kind _ n₄, ne_eqb kind _ n₅, ne_eqb kind _ n₆, ne_eqb kind _ n₇) refl
 
+-- a bus has no translation
+abbrev pub bus_fits : ℕ → ℕ → List ℕ → Bool
+bus_fits w a text = cond (eqb a 2) (eqb (translation_of w text) 0) true
+
 -- ── The range in an address space's text
 module _ (w a : ℕ) (text : List ℕ) {lo hi : ℕ} (el : lo ≡ min_of w text) (eh : hi ≡ max_of w text) where
   pub range_under : hi < lo → false ≡ range_fits w a text
@@ -68,18 +74,24 @@ module _ (w a : ℕ) (text : List ℕ) {lo hi : ℕ} (el : lo ≡ min_of w text)
   range_under h = rw (← el, ← eh, lt-leb lo hi h) refl
 
   module _ (h : lo ≤ hi) {full : ℕ} (ef : full ≡ 256 ^ w - 1) where
-    pub range_over : full ≤ hi - lo → false ≡ range_fits w a text
+    range_over : full ≤ hi - lo → false ≡ range_fits w a text
     unfolding range_fits range_length
     range_over g = rw (← el, ← eh, le-leb lo hi h, le-ltb (hi - lo + 1) (256 ^ w) (omega arith)) refl
 
-    module _ (g : hi - lo < full) where
-      pub range_bus : {t : ℕ} → a ≡ 2 → t ≡ translation_of w text → eqb t 0 ≡ range_fits w a text
-      unfolding range_fits range_length
-      range_bus e et = rw (← el, ← eh, le-leb lo hi h, lt-ltb (hi - lo + 1) (256 ^ w) (omega arith), eq-eqb a 2 e, et) refl
+    range_last : hi - lo < full → bus_fits w a text ≡ range_fits w a text
+    unfolding range_fits range_length
+    range_last g = rw (← el, ← eh, le-leb lo hi h, lt-ltb (hi - lo + 1) (256 ^ w) (omega arith)) refl
 
-      pub range_free : (a ≡ 2 → ⊥) → true ≡ range_fits w a text
-      unfolding range_fits range_length
-      range_free e = rw (← el, ← eh, le-leb lo hi h, lt-ltb (hi - lo + 1) (256 ^ w) (omega arith), ne_eqb a 2 e) refl
+    -- as the code asks for the width
+    pub range_wide : ltb (hi - lo) full ≡ true → bus_fits w a text ≡ range_fits w a text
+    range_wide t = range_last (ltb→lt (hi - lo) full (true_test _ t))
+
+    pub range_not_wide : ltb (hi - lo) full ≡ false → false ≡ range_fits w a text
+    range_not_wide t = range_over (ltb-false (hi - lo) full t)
+
+-- the limits of a row, and its text where that is not used
+abbrev pub fields_fit : Columns → List ℕ → ℕ → ℕ → Bool
+fields_fit c text a x = leb a c.alimit && leb x c.xlimit && unused_fits c.text text
 
 -- ── A row that was looked up
 module _ (kind : ℕ) {c : Columns} (e : c ≡ columns_of (row_of kind)) where
@@ -99,30 +111,20 @@ module _ (kind : ℕ) {c : Columns} (e : c ≡ columns_of (row_of kind)) where
   space-most = rw e ((solid-row kind).space, refl)
 
   -- the field checks, one after the other
-  module _ (text : List ℕ) (a x : ℕ) where
-    pub over-a : c.alimit < a → false ≡ in_range (row_of kind) text a x
+  module _ (text : List ℕ) (a x : ℕ) {f : Bool} (ef : f ≡ fields_fit c text a x) where
+    rest : in_range (row_of kind) text a x ≡ f && cond (eqb c.space 0) true (space_fits c.space text a x)
     unfolding in_range columns_of
-    over-a h = rw (lt-leb a (row_of kind).a_most (rw e at h)) refl
+    rest = rw (ef, e) refl
 
-    module _ (ha : a ≤ c.alimit) where
-      pub over-x : c.xlimit < x → false ≡ in_range (row_of kind) text a x
-      unfolding in_range columns_of
-      over-x h = rw (le-leb a (row_of kind).a_most (rw e at ha), lt-leb x (row_of kind).x_most (rw e at h)) refl
+    pub no_fields : f ≡ false → f ≡ in_range (row_of kind) text a x
+    no_fields h = rw (rest, h) refl
 
-      module _ (hx : x ≤ c.xlimit) {u : Bool} (eu : u ≡ unused_fits c.text text) where
-        rest : in_range (row_of kind) text a x ≡ u && cond (eqb c.space 0) true (space_fits c.space text a x)
-        unfolding in_range columns_of
-        rest = rw (le-leb a (row_of kind).a_most (rw e at ha), le-leb x (row_of kind).x_most (rw e at hx), eu, e) refl
+    module _ (t : f ≡ true) where
+      pub no_space : c.space ≡ 0 → true ≡ in_range (row_of kind) text a x
+      no_space z = rw (rest, t, eq-eqb c.space 0 z) refl
 
-        pub not_unused : u ≡ false → false ≡ in_range (row_of kind) text a x
-        not_unused f = rw (rest, f) refl
-
-        module _ (t : u ≡ true) where
-          pub no_space : c.space ≡ 0 → true ≡ in_range (row_of kind) text a x
-          no_space z = rw (rest, t, eq-eqb c.space 0 z) refl
-
-          pub a-space : (c.space ≡ 0 → ⊥) → {s : Bool} → s ≡ space_fits c.space text a x → s ≡ in_range (row_of kind) text a x
-          a-space z es = rw (rest, t, ne_eqb c.space 0 z) es
+      pub a-space : (c.space ≡ 0 → ⊥) → {s : Bool} → s ≡ space_fits c.space text a x → s ≡ in_range (row_of kind) text a x
+      a-space z es = rw (rest, t, ne_eqb c.space 0 z) es
 
 -- ── The bytes of fields that are in range
 -- the numbers in an address space's text; where there is none they are 0

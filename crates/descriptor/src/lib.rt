@@ -6,7 +6,7 @@ ghost use Rattle.std.specs.Prelude.{◌≡◌, ◌+◌, ◌-◌, ◌*◌, ◌^�
 ghost use Rattle.octets.specs.Filling.{Wrote};
 ghost use Rattle.descriptor.specs.Descriptor.{row_of, range_length, flags_fit, range_fits, spelled, unused_fits, space_fits, in_range, descriptor};
 ghost use Rattle.descriptor.specs.Template.{end_tag};
-ghost use Rattle.descriptor.specs.DescriptorLaws.{Valid, Ranged};
+ghost use Rattle.descriptor.specs.DescriptorLaws.{Valid, Ranged, bus_fits, fields_fit};
 ghost use Rattle.descriptor.specs.Columns.{columns_of, size_of, text_columns, number_columns, space_columns};
 
 // A row as numbers: the bytes before x as one number in which a counts `unit`, and how many they are; the bytes of x and the
@@ -24,6 +24,19 @@ pub struct Columns {
     pub full: u64,
 }
 
+// A row of no bytes, as a kind has that is no descriptor.
+const NO_COLUMNS: Columns = Columns {
+    head: 0,
+    unit: 1,
+    width: 0,
+    tail: 0,
+    alimit: 0,
+    xlimit: 0,
+    text: 0,
+    space: 0,
+    full: 0,
+};
+
 // The tag, then the text alone.
 fn text_columns(head: u64, unit: u64, width: usize, text: usize) -> Columns
     ensures { result ≡ text_columns head unit width text }
@@ -32,12 +45,8 @@ fn text_columns(head: u64, unit: u64, width: usize, text: usize) -> Columns
         head,
         unit,
         width,
-        tail: 0,
-        alimit: 0,
-        xlimit: 0,
         text,
-        space: 0,
-        full: 0,
+        ..NO_COLUMNS
     }
 }
 
@@ -52,9 +61,7 @@ fn number_columns(head: u64, width: usize, alimit: u64, tail: usize, xlimit: u64
         tail,
         alimit,
         xlimit,
-        text: 0,
-        space: 0,
-        full: 0,
+        ..NO_COLUMNS
     }
 }
 
@@ -80,28 +87,16 @@ fn space_columns(head: u64, w: usize, full: u64) -> Columns
 fn columns_of(kind: u64) -> Columns
     ensures { result ≡ columns_of (row_of kind) }
 {
-    if kind == 0xE047 {
-        return text_columns(0x0147, 0x10000, 2, 6);
+    match kind {
+        0xE047 => text_columns(0x0147, 0x10000, 2, 6),
+        0xE082 => text_columns(0x0C82, 0x1000000, 3, 12),
+        0xE086 => number_columns(0x0986, 4, 1, 8, 0xFFFFFFFFFFFFFFFF),
+        0xE089 => number_columns(0x0100000689, 5, 15, 4, 0xFFFFFFFF),
+        0xE088 => space_columns(0x0C00000D88, 2, 0xFFFF),
+        0xE087 => space_columns(0x0C00001787, 4, 0xFFFFFFFF),
+        0xE08A => space_columns(0x0C00002B8A, 8, 0xFFFFFFFFFFFFFFFF),
+        _ => NO_COLUMNS,
     }
-    if kind == 0xE082 {
-        return text_columns(0x0C82, 0x1000000, 3, 12);
-    }
-    if kind == 0xE086 {
-        return number_columns(0x0986, 4, 1, 8, 0xFFFFFFFFFFFFFFFF);
-    }
-    if kind == 0xE089 {
-        return number_columns(0x0100000689, 5, 15, 4, 0xFFFFFFFF);
-    }
-    if kind == 0xE088 {
-        return space_columns(0x0C00000D88, 2, 0xFFFF);
-    }
-    if kind == 0xE087 {
-        return space_columns(0x0C00001787, 4, 0xFFFFFFFF);
-    }
-    if kind == 0xE08A {
-        return space_columns(0x0C00002B8A, 8, 0xFFFFFFFFFFFFFFFF);
-    }
-    text_columns(0, 1, 0, 0)
 }
 
 // ── Sizes and field checks
@@ -125,13 +120,19 @@ pub fn descriptor_spelled(kind: u64, text: &[u8]) -> bool
 fn flags_fit(a: u64, x: u64) -> bool
     ensures { result ≡ flags_fit a x }
 {
-    if a == 0 {
-        return x <= 7;
+    match a {
+        0 => x <= 7,
+        1 => x == 3,
+        _ => x == 0,
     }
-    if a == 1 {
-        return x == 3;
-    }
-    x == 0
+}
+
+// A bus has no translation.
+fn bus_fits(w: usize, a: u64, text: &[u8]) -> bool
+    requires { (w ≤ 8) × (3 * w ≤ length text.now) }
+    ensures { result ≡ bus_fits w a text.now }
+{
+    a != 2 || octets::get_le(text, w + w, w) == 0
 }
 
 // Max - min + 1 fits exactly where max - min is under the largest number of w bytes.
@@ -141,40 +142,27 @@ fn range_fits(w: usize, full: u64, a: u64, text: &[u8]) -> bool
 {
     let min = octets::get_le(text, 0, w);
     let max = octets::get_le(text, w, w);
-    if max < min {
-        return false;
-    }
-    if full <= max - min {
-        return false;
-    }
-    if a == 2 {
-        let translation = octets::get_le(text, w + w, w);
-        return translation == 0;
-    }
-    true
+    min <= max && max - min < full && bus_fits(w, a, text)
 }
 
 // A text that its row does not use is empty.
 fn unused_fits(n: usize, text: &[u8]) -> bool
     ensures { result ≡ unused_fits n text.now }
 {
-    if n == 0 {
-        return text.len() == 0;
-    }
-    true
+    n != 0 || text.is_empty()
 }
 
 fn space_fits(w: usize, full: u64, text: &[u8], a: u64, x: u64) -> bool
     requires { (w ≤ 8) × (full ≡ 256 ^ w - 1) }
     ensures { result ≡ space_fits w text.now a x }
 {
-    if flags_fit(a, x) {
-        if text.len() == 3 * w {
-            return range_fits(w, full, a, text);
-        }
-        return true;
-    }
-    false
+    flags_fit(a, x) && (text.len() != 3 * w || range_fits(w, full, a, text))
+}
+
+fn fields_fit(c: &Columns, text: &[u8], a: u64, x: u64) -> bool
+    ensures { result ≡ fields_fit c.now text.now a x }
+{
+    a <= c.alimit && x <= c.xlimit && unused_fits(c.text, text)
 }
 
 // Whether the fields are in their ranges: else 5, before 6.
@@ -182,20 +170,7 @@ pub fn descriptor_in_range(kind: u64, text: &[u8], a: u64, x: u64) -> bool
     ensures { result ≡ in_range (row_of kind) text.now a x }
 {
     let c = columns_of(kind);
-    let n = c.text;
-    if c.alimit < a {
-        return false;
-    }
-    if c.xlimit < x {
-        return false;
-    }
-    if unused_fits(n, text) {
-        if c.space == 0 {
-            return true;
-        }
-        return space_fits(c.space, c.full, text, a, x);
-    }
-    false
+    fields_fit(&c, text, a, x) && (c.space == 0 || space_fits(c.space, c.full, text, a, x))
 }
 
 // ── Bytes
@@ -217,10 +192,10 @@ pub fn put_descriptor(kind: u64, text: &[u8], a: u64, x: u64, out: &mut [u8]) ->
     let c = columns_of(kind);
     let n = range_length(c.space, text);
     let mut at = 0;
-    at = at + octets::put_le(c.width, c.head + c.unit * a, &mut out[at..]);
-    at = at + octets::put_le(c.tail, x, &mut out[at..]);
-    at = at + octets::put_slice(text, &mut out[at..]);
-    at = at + octets::put_le(c.space, n, &mut out[at..]);
+    at += octets::put_le(c.width, c.head + c.unit * a, &mut out[at..]);
+    at += octets::put_le(c.tail, x, &mut out[at..]);
+    at += octets::put_slice(text, &mut out[at..]);
+    at += octets::put_le(c.space, n, &mut out[at..]);
     at
 }
 

@@ -1,10 +1,12 @@
 -- What acceptance says of a file for the functions that measure and write: where its sections lie, how large they are, and that
 -- each of its records can be written. Assumes nothing.
-use Rattle.std.specs.Prelude.{◌≡◌, refl, Bool, true, false, not, cond, List, [], ◌∷◌, ◌++◌, map, ℕ, zero, suc, ◌+◌, ◌-◌, ◌*◌, ◌/◌, ◌≤◌, ◌<◌, T, eqb, length}
+use Rattle.std.specs.Prelude.{◌≡◌, refl, Bool, true, false, not, cond, List, [], ◌∷◌, ◌++◌, map, ℕ, zero, suc, ◌+◌, ◌-◌, ◌*◌, ◌/◌, ◌^◌, ◌≤◌, ◌<◌, T, eqb, length, take, drop, get_or}
 use Rattle.std.proofs.Common.{sym, subst, arith, eqb→eq, leb→le, length-take, length-drop, eqb-true}
 use Rattle.std.proofs.Math.Option.{Option, none, some}
+use Rattle.std.proofs.Math.Nat.{pow-suc}
+use Rattle.std.proofs.lemmas.List.{get_or-drop}
 use Rattle.octets.specs.Tests.{and_left, and_right}
-use Rattle.octets.specs.Reading.{Digits}
+use Rattle.octets.specs.Bytes.{value, le_at}
 use Rattle.grammar.specs.declared.Place.{Place}
 use Rattle.grammar.specs.declared.Place.TheVariants.{InList}
 use Rattle.grammar.specs.declared.Row.{Row}
@@ -15,17 +17,33 @@ use Rattle.tree.specs.Fits.{Args, fine, known, term_fits, Fits}
 use Rattle.written.specs.Fine.{Fine}
 use Rattle.written.specs.FineLaws.{row-narrow}
 use Rattle.term.specs.declared.Record.{Record}
-use Rattle.term.specs.declared.Layout.{Layout}
-use Rattle.term.specs.File.{identity, touching, laid_out, few, refused_by, layout_of, record_count, pool_length, arity_offset, pool_offset}
-use Rattle.term.specs.FileLaws.{header-small, layout-within}
+use Rattle.term.specs.File.{identity, touching, laid_out, few, Layout, refused_by, layout_of, record_count, pool_length, arity_offset, pool_offset}
+use Rattle.term.specs.FileLaws.{layout-within}
 use Rattle.term.specs.Record.{record_at, records_of, records_from}
 use Rattle.arity.specs.Arity.{args_of}
-use Rattle.checker.specs.declared.Verdict.{Verdict}
-use Rattle.checker.specs.Refusal.{verdict, text_of, record_section, arity_section, pool_section, refusal_of}
+use Rattle.checker.specs.Refusal.{Verdict, verdict, text_of, record_section, arity_section, pool_section, refusal_of}
 use Rattle.checker.specs.Accepted.{accepted-forest}
 use Rattle.checker.specs.Described.{term_of, forest_of}
 use Rattle.encode.specs.WalkLaws.{Small}
-use Rattle.encode.specs.Sound.{FineRecord, Sound}
+use Rattle.encode.specs.Sound.{FineRecord, record_fine, Sound}
+
+-- ── A number of the header fits 32 bits
+abbrev pub Bytes : List ℕ → Type 0
+Bytes f = (i : ℕ) → get_or f i 0 < 256
+
+value-fits : (n : ℕ) (b : List ℕ) → Bytes b → value (take n b) < 256 ^ n
+unfolding value
+value-fits zero b h = omega arith
+value-fits (suc n) [] h = omega (arith, pow-suc 256 n, value-fits n [] h)
+value-fits (suc n) (x ∷ b) h = omega (arith, pow-suc 256 n, value-fits n b (λ i. h (suc i)), h 0)
+
+pool-few : (f : List ℕ) → Bytes f → pool_length f < 4294967296
+unfolding le_at
+pool-few f h = value-fits 4 (drop 20 f) (λ i. rw (get_or-drop 20 f i 0) (h (20 + i)))
+
+-- ── What the checker says of an accepted file
+pub passed : (f : List ℕ) → verdict 0 0 ≡ refusal_of f → (refusal_of f).number ≡ 0
+passed f v = rw (← v) refl
 
 -- ── The layout
 layout-passed : (n : ℕ) (w : Verdict) → (cond (not (eqb n 0)) (verdict n 0) w).number ≡ 0 → n ≡ 0
@@ -98,7 +116,7 @@ record-fine pool b (suc n) i (suc j) h k = let e : i + suc j ≡ suc i + j = ome
 
 record_of_lem : (pool : List ℕ) (r : Record) → FineTerm (term_of pool r) → FineRecord pool r
 unfolding term_of text_of
-record_of_lem pool r h = record { row = h.row; known = h.known; fine = h.fine }
+record_of_lem pool r h = record_fine pool r h.known h.fine
 
 pub accepted-fine : (f : List ℕ) → (refusal_of f).number ≡ 0 → (i : ℕ) → i < length (record_section f) / 24 → FineRecord (pool_section f) (record_at (record_section f) i)
 unfolding forest_of records_from
@@ -117,18 +135,14 @@ module _ (f : List ℕ) (z : (refusal_of f).number ≡ 0) where
   unfolding identity
   identity-length = let (a, b, c) = accepted-within in simp (length-take, length-drop) (omega arith)
 
-  -- by the pool's length, which the code has read in the header
-  module _ {k : ℕ} (d : Digits f 20 4 k) where
-    pub pool-ends : (layout_of f).pool + k ≡ length f
-    pool-ends = rw d.is (sym (layout-sized f (accepted-layout f z)).1)
-
+  -- by its bytes, which are those of a lent slice
+  module _ (h : Bytes f) where
     accepted-small : Small (record_section f) (pool_section f)
     accepted-small =
         let (a, b, c) = accepted-within in
         let s = layout-sized f (accepted-layout f z) in
-        let p = pool-ends in
-        let q : k < 4294967296 = header-small (omega arith) (omega arith) d in
-        record { few = simp (length-take, length-drop) (omega (arith, s.0)); short = simp (length-take, length-drop) (omega arith) }
+        let q = pool-few f h in
+        record { few = simp (length-take, length-drop) (omega (arith, s.0)); short = simp (length-take, length-drop) (omega (arith, s.1)) }
 
     pub accepted-sound : Sound (record_section f) (pool_section f)
     accepted-sound = record { small = accepted-small; each = accepted-fine f z }

@@ -1,29 +1,42 @@
 -- What the call answers and leaves, held to Encode; and the same said by what the walk along the records measures, as the code goes.
 -- Assumes nothing.
-use Rattle.std.specs.Prelude.{◌≡◌, Bool, true, false, ◌||◌, not, cond, List, ℕ, ◌+◌, ◌-◌, ◌/◌, ◌≤◌, ◌<◌, eqb, ltb, length}
-use Rattle.std.proofs.Math.Path.{refl}
-use Rattle.std.proofs.Common.{sym, ◌∙◌, arith}
-use borrow.Author.Tests.{ne_eqb, lt-ltb, le-ltb, ltb-false}
+use Rattle.std.specs.Prelude.{◌≡◌, Bool, true, false, ◌||◌, not, cond, List, ℕ, ◌+◌, ◌/◌, ◌≤◌, eqb, ltb, length, Result, Ok, Err}
+use Rattle.std.proofs.Common.{refl, sym, ap, ap₂, ◌∙◌, arith, ne_eqb, ltb-false}
+use Rattle.refusal.specs.declared.Fault.{Fault}
+use Rattle.refusal.specs.declared.Refusal.{Refusal}
+use Rattle.refusal.specs.Number.{number}
+use Rattle.refusal.specs.NumberLaws.{number-injective, number-positive}
 use Rattle.grammar.specs.Forest.{Forest}
 use Rattle.term.specs.File.{identity}
-use Rattle.checker.specs.declared.Verdict.{Verdict}
-use Rattle.checker.specs.Refusal.{refusal_of}
-use Rattle.encode.specs.declared.Answer.{Answer}
-use Rattle.encode.specs.Encode.{table_of, Outcome, refused_by, handed, outcome_of, encode_of, Answered}
+use Rattle.checker.specs.Refusal.{verdict, refusal_of}
+use Rattle.encode.specs.Encode.{table_of, Answer, answer_of, Outcome, refused_by, handed, outcome_of, encode_of, Answered}
 use Rattle.encode.specs.Walk.{Part, list, term}
 use Rattle.encode.specs.WalkLaws.{terms_from}
 
+-- ── Two results with one answer are the same
+abbrev fault : Refusal → ℕ → Fault
+fault r i = record { refusal = r; index = i }
+
+pub answer-injective : (r s : Result ℕ Fault) → answer_of r ≡ answer_of s → r ≡ s
+answer-injective (Ok m) (Ok n) e = ap Ok (ap (λ (a : Answer). a.length) e)
+answer-injective (Ok m) (Err g) e = let z = ap (λ (a : Answer). a.number) e in absurd (omega (arith, number-positive g.refusal))
+answer-injective (Err f) (Ok n) e = let z = ap (λ (a : Answer). a.number) e in absurd (omega (arith, number-positive f.refusal))
+answer-injective (Err f) (Err g) e =
+    let r = number-injective f.refusal g.refusal (ap (λ (a : Answer). a.number) e) in
+    ap Err (ap₂ fault r (ap (λ (a : Answer). a.index) e))
+
 -- number, index, length and every byte of the output are determined
-pub answered_determined : {r s : Answer} {out out' : List ℕ} {o : Outcome} → Answered r out o → Answered s out' o → (r ≡ s) × (out ≡ out')
-answered_determined h k = (h.answer ∙ sym k.answer, h.output ∙ sym k.output)
+pub answered_determined : {r s : Result ℕ Fault} {out out' : List ℕ} {o : Outcome} → Answered r out o → Answered s out' o → (r ≡ s) × (out ≡ out')
+answered_determined {r} {s} h k = (answer-injective r s (h.answer ∙ sym k.answer), h.output ∙ sym k.output)
 
 -- 1 to 10, whatever is made of an accepted file
-pub outcome_refused : (make : Forest → List ℕ) (f out : List ℕ) {v : Verdict} → v ≡ refusal_of f → (v.number ≡ 0 → ⊥)
-    → Answered (record { number = v.number; index = v.index; length = 0 }) out (outcome_of make f out)
+pub outcome_refused : (make : Forest → List ℕ) (f out : List ℕ) {v : Fault} → verdict (number v.refusal) v.index ≡ refusal_of f → Answered (Err v) out (outcome_of make f out)
 unfolding outcome_of refused_by
-outcome_refused make f out e z = rw e (rw (ne_eqb (refusal_of f).number 0 (rw e at z)) (record { answer = refl; output = refl }))
+outcome_refused make f out {v} e =
+    let p = number-positive v.refusal in
+    rw (← e, ne_eqb (number v.refusal) 0 (λ z. omega arith)) (record { answer = refl; output = refl })
 
-pub encode_refused : (f out : List ℕ) {v : Verdict} → v ≡ refusal_of f → (v.number ≡ 0 → ⊥) → Answered (record { number = v.number; index = v.index; length = 0 }) out (encode_of f out)
+pub encode_refused : (f out : List ℕ) {v : Fault} → verdict (number v.refusal) v.index ≡ refusal_of f → Answered (Err v) out (encode_of f out)
 unfolding encode_of
 encode_refused f out = outcome_refused (table_of (identity f)) f out
 
@@ -43,24 +56,10 @@ number_of p = figures_number p.records p.deep (length p.bytes)
 unfoldable pub walked : List ℕ → Part → List ℕ → Outcome
 walked bs p out = cond (not (eqb (number_of p) 0)) (refused_by (number_of p) 0 out) (handed bs out)
 
-module _ (n : ℕ) (deep : Bool) (size : ℕ) {b : Bool} (e : b ≡ ltb 65536 n || deep) where
-  pub figures_many : b ≡ true → 11 ≡ figures_number n deep size
-  unfolding figures_number
-  figures_many t = rw (← e, t) refl
-
-  module _ (t : b ≡ false) where
-    pub figures_large : 268435455 - 36 < size → 12 ≡ figures_number n deep size
-    unfolding figures_number
-    figures_large h = rw (← e, t, lt-ltb 268435455 (36 + size) (omega arith)) refl
-
-    pub figures_fine : size ≤ 268435455 - 36 → 0 ≡ figures_number n deep size
-    unfolding figures_number
-    figures_fine h = rw (← e, t, le-ltb 268435455 (36 + size) (omega arith)) refl
-
 -- a number that is 0 says that the records are not too many, and that the table is not too large
-pub figures_within : (n : ℕ) (deep : Bool) (size : ℕ) {k : ℕ} → k ≡ figures_number n deep size → k ≡ 0 → (n ≤ 65536) × (36 + size ≤ 268435455)
+pub figures_within : (n : ℕ) (deep : Bool) (size : ℕ) → 0 ≡ figures_number n deep size → (n ≤ 65536) × (36 + size ≤ 268435455)
 unfolding figures_number
-figures_within n deep size e z = by (ltb 65536 n) refl (ltb 268435455 (36 + size)) refl deep (sym e ∙ z)
+figures_within n deep size z = by (ltb 65536 n) refl (ltb 268435455 (36 + size)) refl deep (sym z)
   where
     by : (a : Bool) → ltb 65536 n ≡ a → (b : Bool) → ltb 268435455 (36 + size) ≡ b → (d : Bool) → ◌≡◌ {A = ℕ} (cond (a || d) 11 (cond b 12 0)) 0 → (n ≤ 65536) × (36 + size ≤ 268435455)
     by true t b u d w = absurd (omega arith)
@@ -68,5 +67,5 @@ figures_within n deep size e z = by (ltb 65536 n) refl (ltb 268435455 (36 + size
     by false t true u false w = absurd (omega arith)
     by false t false u false w = (ltb-false 65536 n t, ltb-false 268435455 (36 + size) u)
 
-pub figures_small : (n : ℕ) (deep : Bool) (size : ℕ) {k : ℕ} → k ≡ figures_number n deep size → k ≡ 0 → 36 + size ≤ 268435455
-figures_small n deep size e z = (figures_within n deep size e z).1
+pub figures_small : (n : ℕ) (deep : Bool) (size : ℕ) → 0 ≡ figures_number n deep size → 36 + size ≤ 268435455
+figures_small n deep size z = (figures_within n deep size z).1

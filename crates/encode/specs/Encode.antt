@@ -1,9 +1,11 @@
 -- Encoding: the table of a term file, the refusals behind 10 (11, 12, 13, 14 in this order), and what the call answers and leaves.
 -- Document 01, "Bytes" (Table) and "Refusal numbers"; ACPI 6.4, 5.2.6 (System Description Table Header).
 -- Assumes nothing.
-use Rattle.std.specs.Prelude.{◌&&◌, not, cond, List, ◌≡◌, ℕ, ◌+◌, eqb, leb, ltb, length}
+use Rattle.std.specs.Prelude.{◌&&◌, not, cond, List, ◌≡◌, ℕ, ◌+◌, eqb, leb, ltb, length, Result, Ok, Err}
 use Rattle.std.proofs.Math.Option.{Option, none, some}
 use Rattle.octets.specs.Bytes.{laid}
+use Rattle.refusal.specs.declared.Fault.{Fault}
+use Rattle.refusal.specs.Number.{number}
 use Rattle.grammar.specs.Forest.{Forest, nil, depth, flatten}
 use Rattle.tree.specs.Bytes.{bytes}
 use Rattle.tree.specs.Normal.{norm, roomy}
@@ -11,7 +13,6 @@ use Rattle.term.specs.File.{identity}
 use Rattle.sdt.specs.Table.{opened, sealed}
 use Rattle.checker.specs.Refusal.{refusal_of}
 use Rattle.checker.specs.Described.{forest_of}
-use Rattle.encode.specs.declared.Answer.{Answer}
 
 -- ── The table: header, terms, with its own length and the checksum that brings the sum to 0. What a forest encodes to is by definition
 -- the bytes of its normal form
@@ -26,6 +27,17 @@ late_number n =
     (cond (not (roomy n)) 13 0))
 
 -- ── The call
+-- a refusal's number and the record at which it was found; or 0, and how many bytes were written
+pub record Answer : Type 0 where
+  pub number : ℕ
+  pub index : ℕ
+  pub length : ℕ
+
+-- the code's result as an answer
+abbrev pub answer_of : Result ℕ Fault → Answer
+answer_of (Ok n) = record { number = 0; index = 0; length = n }
+answer_of (Err f) = record { number = number f.refusal; index = f.index; length = 0 }
+
 -- the answer, and the output as it is left
 pub record Outcome : Type 0 where
   pub answer : Answer
@@ -55,7 +67,7 @@ outcome_of make f out =
 unfoldable pub encode_of : List ℕ → List ℕ → Outcome
 encode_of f out = outcome_of (table_of (identity f)) f out
 
--- the answer r and the output as it is left are those of the outcome
-pub record Answered (r : Answer) (out : List ℕ) (o : Outcome) : Type 0 where
-  pub answer : r ≡ o.answer
+-- the result r, as an answer, and the output as it is left are those of the outcome
+pub record Answered (r : Result ℕ Fault) (out : List ℕ) (o : Outcome) : Type 0 where
+  pub answer : answer_of r ≡ o.answer
   pub output : out ≡ o.output

@@ -1,13 +1,14 @@
 -- A table of sizes that were measured: for some records, how long their children are with so many levels. For the writer, which
 -- need not measure them again for each box around them. Assumes nothing.
-use Rattle.std.specs.Prelude.{◌≡◌, Bool, ◌&&◌, List, ℕ, ◌+◌, ◌-◌, ◌*◌, ◌/◌, ◌%◌, ◌<◌, ◌≤◌, get_or, set, replicate}
+use Rattle.std.specs.Prelude.{◌≡◌, Bool, ◌&&◌, List, ℕ, ◌+◌, ◌-◌, ◌*◌, ◌/◌, ◌%◌, ◌<◌, ◌≤◌, get_or, set, replicate, Option, Some, None, unwrap_or}
 use Rattle.std.proofs.Math.Path.{refl}
-use Rattle.std.proofs.Common.{◌∙◌, arith, length-set, get_or-set_same, get_or-set_other}
+use Rattle.std.proofs.Common.{sym, ap, ◌∙◌, arith, length-set, get_or-set_same, get_or-set_other}
 use Rattle.std.proofs.Math.Bool.{true, false, cond}
 use Rattle.std.proofs.Math.Dec.{ltb, eqb}
 use Rattle.std.proofs.Math.ListN.{length}
 use Rattle.std.proofs.lemmas.List.{length-replicate, get_or-replicate}
-use borrow.Author.Tests.{ltb-true, eqb-true, eqb-false, lt-ltb, le-ltb, eq-eqb, ne_eqb}
+use Rattle.std.proofs.lemmas.Option.{none-some}
+use borrow.Author.Tests.{ltb-true, eqb-true, eqb-false}
 use Rattle.term.specs.Record.{record_at}
 use Rattle.encode.specs.Walk.{list, term}
 use Rattle.encode.specs.WalkLaws.{terms_from, kids_of}
@@ -27,9 +28,9 @@ slot_of i = i % 4096
 unfoldable pub kept_in : List ℕ → ℕ → ℕ → ℕ → List ℕ
 kept_in kept i levels size = cond (ltb (slot_of i) (length kept) && ltb size 4294967296) (set kept (slot_of i) (size + 4294967296 * key_of i levels)) kept
 
--- the size that it keeps; 2^32 is none
-unfoldable pub kept_of : List ℕ → ℕ → ℕ → ℕ
-kept_of kept i levels = cond (ltb (slot_of i) (length kept) && eqb (get_or kept (slot_of i) 0 / 4294967296) (key_of i levels)) (get_or kept (slot_of i) 0 % 4294967296) 4294967296
+-- the size that it keeps, if it keeps one
+unfoldable pub kept_of : List ℕ → ℕ → ℕ → Option ℕ
+kept_of kept i levels = cond (ltb (slot_of i) (length kept) && eqb (get_or kept (slot_of i) 0 / 4294967296) (key_of i levels)) (Some (get_or kept (slot_of i) 0 % 4294967296)) None
 
 -- an entry is right: whichever record and level it is of, it has the size of the children there
 pub record Right (records pool : List ℕ) (e : ℕ) : Type 0 where
@@ -74,52 +75,22 @@ module _ {records pool kept : List ℕ} (k : Kept records pool kept) where
       by true false t = k
       by true true t = kept_set _ _ (right_made records pool i levels size l (ltb-true size 4294967296 t) e)
 
-  kept-got : (i levels : ℕ) → levels ≤ 64 → {r : ℕ} → r ≡ kept_of kept i levels → r < 4294967296 → r ≡ length (kids_of records pool levels i (record_at records i)).bytes
+  kept-got : (i levels : ℕ) → levels ≤ 64 → {r : ℕ} → Some r ≡ kept_of kept i levels → r ≡ length (kids_of records pool levels i (record_at records i)).bytes
   unfolding kept_of
-  kept-got i levels l {r} e f = by (ltb (slot_of i) (length kept)) (eqb (get_or kept (slot_of i) 0 / 4294967296) (key_of i levels)) refl refl e
+  kept-got i levels l {r} e = by (ltb (slot_of i) (length kept)) (eqb (get_or kept (slot_of i) 0 / 4294967296) (key_of i levels)) refl refl e
     where
       by : (a b : Bool) → ltb (slot_of i) (length kept) ≡ a → eqb (get_or kept (slot_of i) 0 / 4294967296) (key_of i levels) ≡ b
-          → r ≡ cond (a && b) (get_or kept (slot_of i) 0 % 4294967296) 4294967296 → r ≡ length (kids_of records pool levels i (record_at records i)).bytes
-      by false b s t x = absurd (omega arith)
-      by true false s t x = absurd (omega arith)
-      by true true s t x = x ∙ (k.each (slot_of i) (ltb-true (slot_of i) (length kept) s)).size i levels l (eqb-true (get_or kept (slot_of i) 0 / 4294967296) (key_of i levels) t)
+          → Some r ≡ cond (a && b) (Some (get_or kept (slot_of i) 0 % 4294967296)) None → r ≡ length (kids_of records pool levels i (record_at records i)).bytes
+      by false b s t x = absurd (none-some r (sym x))
+      by true false s t x = absurd (none-some r (sym x))
+      by true true s t x =
+          ap (λ (o : Option ℕ). unwrap_or o 0) x
+          ∙ (k.each (slot_of i) (ltb-true (slot_of i) (length kept) s)).size i levels l (eqb-true (get_or kept (slot_of i) 0 / 4294967296) (key_of i levels) t)
 
   -- for whoever is told the number of children
   module _ {levels i n : ℕ} (x : Parent records levels i n) where
     pub parent_put : (size : ℕ) → size ≡ length (list (term (levels - 1)) n (terms_from records pool (i + 1))).bytes → Kept records pool (kept_in kept i levels size)
     parent_put size e = kept_put i levels size x.most (rw (← x.kids) e)
 
-    pub parent_got : {r : ℕ} → r ≡ kept_of kept i levels → r < 4294967296 → r ≡ length (list (term (levels - 1)) n (terms_from records pool (i + 1))).bytes
-    parent_got e f = rw x.kids (kept-got i levels x.most e f)
-
--- ── How the code keeps a size and finds it: by the tests that it makes
-module _ (kept : List ℕ) (i levels : ℕ) where
-  module _ (size : ℕ) where
-    pub keep_out : length kept ≤ i % 4096 → kept ≡ kept_in kept i levels size
-    unfolding kept_in slot_of
-    keep_out h = rw (le-ltb (i % 4096) (length kept) h) refl
-
-    pub keep_long : 4294967296 ≤ size → kept ≡ kept_in kept i levels size
-    unfolding kept_in
-    keep_long h = rw (le-ltb size 4294967296 h) (by (ltb (slot_of i) (length kept)))
-      where
-        by : (a : Bool) → kept ≡ cond (a && false) (set kept (slot_of i) (size + 4294967296 * key_of i levels)) kept
-        by true = refl
-        by false = refl
-
-    pub keep_in : i % 4096 < length kept → size < 4294967296 → set kept (i % 4096) (size + 4294967296 * (levels + 1 + 128 * i)) ≡ kept_in kept i levels size
-    unfolding kept_in slot_of key_of
-    keep_in h f = rw (lt-ltb (i % 4096) (length kept) h, lt-ltb size 4294967296 f) refl
-
-  pub kept_out : length kept ≤ i % 4096 → 4294967296 ≡ kept_of kept i levels
-  unfolding kept_of slot_of
-  kept_out h = rw (le-ltb (i % 4096) (length kept) h) refl
-
-  module _ (h : i % 4096 < length kept) where
-    pub kept-other : (get_or kept (i % 4096) 0 / 4294967296 ≡ levels + 1 + 128 * i → ⊥) → 4294967296 ≡ kept_of kept i levels
-    unfolding kept_of slot_of key_of
-    kept-other f = rw (lt-ltb (i % 4096) (length kept) h, ne_eqb (get_or kept (i % 4096) 0 / 4294967296) (levels + 1 + 128 * i) f) refl
-
-    pub kept_in_lem : get_or kept (i % 4096) 0 / 4294967296 ≡ levels + 1 + 128 * i → get_or kept (i % 4096) 0 % 4294967296 ≡ kept_of kept i levels
-    unfolding kept_of slot_of key_of
-    kept_in_lem f = rw (lt-ltb (i % 4096) (length kept) h, eq-eqb (get_or kept (i % 4096) 0 / 4294967296) (levels + 1 + 128 * i) f) refl
+    pub parent_got : {r : ℕ} → Some r ≡ kept_of kept i levels → r ≡ length (list (term (levels - 1)) n (terms_from records pool (i + 1))).bytes
+    parent_got e = rw x.kids (kept-got i levels x.most e)

@@ -16,67 +16,65 @@ use Rattle.checker.specs.Refusal.{text_of}
 use Rattle.checker.specs.Described.{term_of}
 use Rattle.tree.specs.Bytes.{behind, term_bytes}
 use Rattle.encode.specs.Most.{row-slim}
-use Rattle.encode.specs.Terms.{Told, body_of, takes_of, head_of, Ready, takes-length, head-parts}
+use Rattle.encode.specs.Terms.{Told, body_of, takes_of, head_of, Able, takes-length, head-parts}
 use Rattle.encode.specs.Walk.{term}
 use Rattle.encode.specs.WalkLaws.{terms_from, kids_of, Small, Room, node-room}
 
+-- its kind stands in the table, and its fields can be written
 pub record FineRecord (pool : List ℕ) (r : Record) : Type 0 where
-  pub row : Row
-  pub known : row_of r.kind ≡ some row
-  pub fine : Fine row (fields_of (text_at pool r.start r.len) r.a r.x)
+  pub known : position r.kind kinds < 67
+  pub fine : Fine (row_at (position r.kind kinds)) (fields_of (text_at pool r.start r.len) r.a r.x)
 
 pub record Sound (records pool : List ℕ) : Type 0 where
   pub small : Small records pool
   pub each : (i : ℕ) → i < length records / 24 → FineRecord pool (record_at records i)
 
--- record i, which is r and has levels for itself and what is below it
-pub record Node (records pool : List ℕ) (levels i : ℕ) (r : Record) : Type 0 where
-  pub sound : Sound records pool
-  pub level : levels ≡ 0 → ⊥
-  pub most : levels ≤ 64
-  pub here : i < length records / 24
-  pub is : r ≡ record_at records i
+-- a kind with a row stands in the table
+listed : (k : ℕ) {row : Row} → row_of k ≡ some row → position k kinds < 67
+listed k e = by (leb 67 (position k kinds)) refl
+  where
+    by : (b : Bool) → leb 67 (position k kinds) ≡ b → position k kinds < 67
+    by true z = absurd (none-ne-some _ (sym (row_unknown k (position k kinds) refl (leb-true 67 (position k kinds) z)) ∙ e))
+    by false z = leb-false 67 (position k kinds) z
 
--- the same for whoever is told its number of children alone
+pub record_fine : (pool : List ℕ) (r : Record) {row : Row} → row_of r.kind ≡ some row → Fine row (fields_of (text_at pool r.start r.len) r.a r.x) → FineRecord pool r
+record_fine pool r e f =
+    let q = some-injective _ _ (sym e ∙ row-known r.kind (position r.kind kinds) refl (listed r.kind e) refl) in
+    record { known = listed r.kind e; fine = subst (λ w. Fine w (fields_of (text_at pool r.start r.len) r.a r.x)) q f }
+
+pub row_known : {pool : List ℕ} {r : Record} → FineRecord pool r → row_of r.kind ≡ some (row_at (position r.kind kinds))
+row_known {r = r} f = row-known r.kind (position r.kind kinds) refl f.known refl
+
+-- record i has levels for itself and what is below it, and n children
 pub record Parent (records : List ℕ) (levels i n : ℕ) : Type 0 where
   pub level : levels ≡ 0 → ⊥
   pub most : levels ≤ 64
   pub here : i < length records / 24
   pub kids : n ≡ (record_at records i).kids
 
-pub node_parent : {records pool : List ℕ} {levels i : ℕ} {r : Record} → Node records pool levels i r → Parent records levels i r.kids
-node_parent x = record { level = x.level; most = x.most; here = x.here; kids = ap (λ (r : Record). r.kids) x.is }
+pub parent_made : {records : List ℕ} {levels i : ℕ} {r : Record} → (levels ≡ 0 → ⊥) → levels ≤ 64 → i < length records / 24 → r ≡ record_at records i → Parent records levels i r.kids
+parent_made l m h e = record { level = l; most = m; here = h; kids = ap (λ (r : Record). r.kids) e }
 
--- with the place of its kind in the table
-module _ {records pool : List ℕ} {levels i : ℕ} {r : Record} (x : Node records pool levels i r) {j : ℕ} (p : j ≡ position r.kind kinds) where
+-- record i, which is r, with the place of its kind in the table
+module _ {records pool : List ℕ} (s : Sound records pool) {i : ℕ} (h : i < length records / 24) {r : Record} (x : r ≡ record_at records i) {j : ℕ} (p : j ≡ position r.kind kinds) where
   fine-record : FineRecord pool r
-  fine-record = subst (FineRecord pool) (sym x.is) (x.sound.each i x.here)
+  fine-record = subst (FineRecord pool) (sym x) (s.each i h)
 
   in_table : j < 67
-  in_table = by (leb 67 j) refl
-    where
-      by : (b : Bool) → leb 67 j ≡ b → j < 67
-      by true z = absurd (none-ne-some _ (sym (row_unknown r.kind j p (leb-true 67 j z)) ∙ fine-record.known))
-      by false z = leb-false 67 j z
+  in_table = rw p fine-record.known
 
   row_here : row_of r.kind ≡ some (row_at j)
   row_here = row-known r.kind j p in_table refl
 
   -- and with its text t
   module _ {t : List ℕ} (et : t ≡ text_at pool r.start r.len) where
-    pub fine-here : Fine (row_at j) (fields_of t r.a r.x)
-    fine-here =
-        let q = some-injective _ _ (sym fine-record.known ∙ row_here) in
-        subst (λ w. Fine (row_at j) (fields_of w r.a r.x)) (sym et) (subst (λ w. Fine w (fields_of (text_at pool r.start r.len) r.a r.x)) q fine-record.fine)
-
-    -- it can be measured and written around children of so many bytes
-    pub ready_here : {m : ℕ} → m ≤ 281474983002112 → Ready (row_at j) (fields_of t r.a r.x) m
+    -- it can be measured and written
+    pub able-here : Able (row_at j) (fields_of t r.a r.x)
     unfolding text_at
-    ready_here k = record {
+    able-here = record {
       slender = row-slim r.kind row_here;
-      fine = fine-here;
-      size = k;
-      short = rw et (simp (length-take, length-drop) (omega (arith, x.sound.small.short)));
+      fine = rw (p, et) fine-record.fine;
+      short = rw et (simp (length-take, length-drop) (omega (arith, s.small.short)));
     }
 
     -- and is the term of the walk
@@ -110,9 +108,9 @@ module _ {records pool : List ℕ} {levels i : ℕ} {r : Record} (x : Node recor
       kids-here = omega (arith, whole_here)
 
     -- ── Its writing, into a part with room for it
-    module _ {m : ℕ} (k : Told (row_at j) (kids_of records pool levels i r).bytes m) {out : List ℕ} (room : Room (term levels (terms_from records pool i)) out) where
+    module _ {levels : ℕ} (l : levels ≡ 0 → ⊥) {m : ℕ} (k : Told (row_at j) (kids_of records pool levels i r).bytes m) {out : List ℕ} (room : Room (term levels (terms_from records pool i)) out) where
       fits-here : (length (bytes_here (kids_of records pool levels i r).bytes) ≤ length out) × (length (bytes_here (kids_of records pool levels i r).bytes) ≤ 268435419)
-      fits-here = node-room records pool levels i x.level x.here x.is room
+      fits-here = node-room records pool levels i l h x room
 
       pub start-here : Writing (bytes_here (kids_of records pool levels i r).bytes) (head_of (row_at j) (fields_of t r.a r.x) r.kids m ∷ (kids_of records pool levels i r).bytes ∷ behind (row_at j) (fields_of t r.a r.x) ∷ []) 0 out out
       start-here = writing_start out (parts-here (kids_of records pool levels i r).bytes k) fits-here.0

@@ -1,29 +1,28 @@
 -- The table: header and terms in a row, then sealed; and what the code answers by the figures that it has measured.
 -- Assumes nothing.
-use Rattle.std.specs.Prelude.{◌≡◌, Bool, ℕ, ◌+◌, ◌≤◌, ◌<◌, length, take, drop}
-use Rattle.std.proofs.Math.Path.{refl}
-use Rattle.std.proofs.Common.{sym, ap, ◌∙◌, arith, length-append}
+use Rattle.std.specs.Prelude.{◌≡◌, Bool, ℕ, ◌+◌, ◌≤◌, ◌<◌, length, Result, Ok, Err}
+use Rattle.std.proofs.Common.{refl, sym, ap, ◌∙◌, arith, length-append, eq-eqb, ne_eqb, lt-ltb, le-ltb}
 use mathlib.Core.List.{List, [], ◌∷◌, flatten, append_assoc, append-nil}
-use borrow.Author.Tests.{eq-eqb, ne_eqb, lt-ltb, le-ltb}
+use Rattle.refusal.specs.declared.Fault.{Fault}
+use Rattle.refusal.specs.declared.Refusal.{Refusal}
+use Rattle.refusal.specs.declared.Refusal.TheVariants.{OutputShort}
+use Rattle.refusal.specs.Number.{number}
+use Rattle.refusal.specs.NumberLaws.{number-positive}
 use Rattle.octets.specs.Bytes.{le}
 use Rattle.octets.specs.Filling.{Wrote, Parts, Writing, writing_start, writing_fits, wrote-length, lent}
-use Rattle.octets.specs.Reading.{Digits}
 use Rattle.sdt.specs.Table.{opened, sealed}
 use Rattle.sdt.specs.TableLaws.{sealed-length}
 use Rattle.sdt.specs.Answer.{header}
 use Rattle.sdt.specs.AnswerLaws.{header-length}
-use Rattle.term.specs.declared.Layout.{Layout}
-use Rattle.term.specs.File.{identity, layout_of}
-use Rattle.term.specs.FileLaws.{Within}
-use Rattle.checker.specs.declared.Verdict.{Verdict}
-use Rattle.checker.specs.Refusal.{refusal_of, part}
-use Rattle.encode.specs.declared.Answer.{Answer}
+use Rattle.term.specs.declared.File.{File}
+use Rattle.term.specs.LaidOut.{Sections}
+use Rattle.checker.specs.Refusal.{verdict, refusal_of}
 use Rattle.encode.specs.Encode.{refused_by, handed, encode_of, Answered}
 use Rattle.encode.specs.Walk.{Part}
 use Rattle.encode.specs.WalkLaws.{Measured, Room}
 use Rattle.encode.specs.Sound.{Sound}
 use Rattle.encode.specs.Answer.{whole, figures_number, number_of, walked, figures_small}
-use Rattle.encode.specs.AcceptLaws.{accepted-within, identity-length, pool-ends, accepted-sound}
+use Rattle.encode.specs.AcceptLaws.{Bytes, passed, identity-length, accepted-sound}
 use Rattle.encode.specs.LateLaws.{encode_accepted}
 
 -- ── Header and terms
@@ -53,25 +52,27 @@ module _ {id : List ℕ} {p : Part} {first : List ℕ} (r : TableRoom id p first
   table-size w = let e = opened-length id p.bytes r.own in (omega (arith, w.count), omega (arith, w.count, r.fits, wrote-length (omega (arith, r.fits)) w))
 
 -- ── The answer, by the figures
-module _ {p : Part} {records pool : List ℕ} {size n : ℕ} {deep : Bool} {next : ℕ} (m : Measured p records pool size n deep next) {k : ℕ} (e : k ≡ figures_number n deep size) where
-  number_is : k ≡ number_of p
-  number_is = rw (← m.counted, ← m.recorded, ← m.deepened) e
+module _ {p : Part} {records pool : List ℕ} {size n : ℕ} {deep : Bool} {next : ℕ} (m : Measured p records pool size n deep next) where
+  number_is : figures_number n deep size ≡ number_of p
+  number_is = rw (← m.counted, ← m.recorded, ← m.deepened) refl
 
   module _ (bs out : List ℕ) where
     -- 11, 12
-    pub walked-refused : (k ≡ 0 → ⊥) → Answered (record { number = k; index = 0; length = 0 }) out (walked bs p out)
+    pub walked-refused : {r : Refusal} → number r ≡ figures_number n deep size → Answered (Err (record { refusal = r; index = 0 })) out (walked bs p out)
     unfolding walked refused_by
-    walked-refused z = let q = number_is in rw (ne_eqb (number_of p) 0 (λ h. z (q ∙ h)), ← q) (record { answer = refl; output = refl })
+    walked-refused {r} h =
+        let q = number-positive r in
+        rw (sym number_is ∙ sym h, ne_eqb (number r) 0 (λ z. omega arith)) (record { answer = refl; output = refl })
 
-    module _ (z : k ≡ 0) {s : ℕ} (l : length bs ≡ s) where
+    module _ (z : 0 ≡ figures_number n deep size) {s : ℕ} (l : length bs ≡ s) where
       -- 14
-      pub walked-short : length out < s → Answered (record { number = 14; index = 0; length = 0 }) out (walked bs p out)
+      pub walked-short : length out < s → Answered (Err (record { refusal = OutputShort; index = 0 })) out (walked bs p out)
       unfolding walked handed refused_by
-      walked-short h = rw (eq-eqb (number_of p) 0 (sym number_is ∙ z), lt-ltb (length out) (length bs) (omega (arith, l))) (record { answer = refl; output = refl })
+      walked-short h = rw (eq-eqb (number_of p) 0 (sym (z ∙ number_is)), lt-ltb (length out) (length bs) (omega (arith, l))) (record { answer = refl; output = refl })
 
-      pub walked-done : {ys : List ℕ} {r : ℕ} → s ≤ length out → Wrote bs out ys r → Answered (record { number = 0; index = 0; length = r }) ys (walked bs p out)
+      pub walked-done : {ys : List ℕ} {r : ℕ} → s ≤ length out → Wrote bs out ys r → Answered (Ok r) ys (walked bs p out)
       unfolding walked handed
-      walked-done h w = rw (eq-eqb (number_of p) 0 (sym number_is ∙ z), le-ltb (length out) (length bs) (omega (arith, l)), w.count) (record { answer = refl; output = w.is })
+      walked-done h w = rw (eq-eqb (number_of p) 0 (sym (z ∙ number_is)), le-ltb (length out) (length bs) (omega (arith, l)), w.count) (record { answer = refl; output = w.is })
 
   module _ (id : List ℕ) (l : length id ≡ 31) where
     abbrev pub table_bytes : List ℕ
@@ -81,29 +82,17 @@ module _ {p : Part} {records pool : List ℕ} {size n : ℕ} {deep : Bool} {next
     table-length = let o = opened-length id p.bytes l in sealed-length (opened id p.bytes) (omega arith) ∙ omega (arith, o, m.counted)
 
     -- the table fits
-    pub table_fits : (out : List ℕ) → k ≡ 0 → 36 + size ≤ length out → TableRoom id p out
-    table_fits out z h = record { own = l; fits = omega (arith, m.counted); few = omega (arith, m.counted, figures_small n deep size e z) }
+    pub table_fits : (out : List ℕ) → 0 ≡ figures_number n deep size → 36 + size ≤ length out → TableRoom id p out
+    table_fits out z h = record { own = l; fits = omega (arith, m.counted); few = omega (arith, m.counted, figures_small n deep size z) }
 
--- ── The sections that the code cuts out of an accepted file
-module _ (f : List ℕ) {v : Verdict} (ev : v ≡ refusal_of f) (zv : v.number ≡ 0) where
-  passed : (refusal_of f).number ≡ 0
-  passed = rw ev at zv
+-- ── The sections of an accepted file
+module _ (f : List ℕ) (v : verdict 0 0 ≡ refusal_of f) {s : File} (e : Sections f s) where
+  pub own-identity : length s.identity.now ≡ 31
+  own-identity = rw e.identity (identity-length f (passed f v))
 
-  pub cut-identity : length (take 31 (drop 28 f)) ≡ 31
-  unfolding identity
-  cut-identity = identity-length f passed
+  pub own-sound : Bytes f → Sound s.records.now s.pool.now
+  own-sound h = rw (e.records, e.pool) (accepted-sound f (passed f v) h)
 
-  module _ {l : Layout} (e : l ≡ layout_of f) where
-    pub cut-within : Within f l
-    cut-within = rw e (accepted-within f passed)
-
-    module _ {k : ℕ} (d : Digits f 20 4 k) where
-      pub cut-ends : l.pool + k ≡ length f
-      cut-ends = rw e (pool-ends f passed d)
-
-      pub cut-sound : Sound (part f 60 l.arities) (part f l.pool (l.pool + k))
-      cut-sound = rw (e, pool-ends f passed d) (accepted-sound f passed d)
-
-      pub cut-answered : (first : List ℕ) {r : Answer} {out : List ℕ} → Answered r out (walked (sealed (opened (take 31 (drop 28 f)) (whole (part f 60 l.arities) (part f l.pool (l.pool + k))).bytes)) (whole (part f 60 l.arities) (part f l.pool (l.pool + k))) first) → Answered r out (encode_of f first)
-      unfolding identity
-      cut-answered first h = rw (encode_accepted f first passed) (rw (e, pool-ends f passed d) at h)
+  pub own-answered : (first : List ℕ) {r : Result ℕ Fault} {out : List ℕ}
+      → Answered r out (walked (sealed (opened s.identity.now (whole s.records.now s.pool.now).bytes)) (whole s.records.now s.pool.now) first) → Answered r out (encode_of f first)
+  own-answered first h = rw (encode_accepted f first (passed f v)) (rw (e.identity, e.records, e.pool) at h)

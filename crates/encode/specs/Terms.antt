@@ -1,10 +1,9 @@
 -- A term around children of so many bytes: how many bytes it takes, and what is written before them. For the measuring and the writing
 -- functions. Assumes nothing.
-use Rattle.std.specs.Prelude.{◌≡◌, refl, Bool, true, false, ◌||◌, ℕ, ◌+◌, ◌≤◌, ◌<◌, T, length}
+use Rattle.std.specs.Prelude.{◌≡◌, refl, Bool, true, false, ℕ, ◌+◌, ◌≤◌, ◌<◌, T, length}
 use Rattle.std.proofs.Common.{sym, ◌∙◌, ap₂, true≢false, arith}
 use mathlib.Core.List.{List, [], ◌∷◌, ◌++◌, append_assoc, append-nil, flatten}
 use Rattle.octets.specs.Filling.{Parts}
-use Rattle.octets.specs.Tests.{or_none}
 use Rattle.grammar.specs.declared.Rest.{Rest}
 use Rattle.grammar.specs.declared.Rest.TheVariants.{Nothing, Arity, Listed, Counted, Measured}
 use Rattle.grammar.specs.declared.Row.{Row}
@@ -31,11 +30,10 @@ is_measured Listed = false
 is_measured Counted = false
 is_measured Measured = true
 
--- what the code asks: its fields can be written, and nothing is so long that a sum would not fit
-pub record Ready (r : Row) (v : Fields) (m : ℕ) : Type 0 where
+-- what the code asks: its fields can be written, and its text is not so long that a sum would not fit
+pub record Able (r : Row) (v : Fields) : Type 0 where
   pub slender : T (slim r)
   pub fine : Fine r v
-  pub size : m ≤ 281474983002112
   pub short : length v.text < 4294967296
 
 module _ (r : Row) (v : Fields) (n : ℕ) (bs : List ℕ) {m : ℕ} (e : m ≡ length bs) where
@@ -48,9 +46,6 @@ module _ (r : Row) (v : Fields) (n : ℕ) (bs : List ℕ) {m : ℕ} (e : m ≡ l
   head-parts = record { is = rw (e, append_assoc) (term-parts r v n bs).is }
 
 -- ── A size is asked for by a box and by a template; elsewhere none need be told
-unfoldable pub asks_size : Row → Bool
-asks_size r = r.boxed || is_measured r.rest
-
 pub record Told (r : Row) (bs : List ℕ) (m : ℕ) : Type 0 where
   pub same : (v : Fields) (n : ℕ) → head_of r v n m ≡ head_of r v n (length bs)
   pub least : (v : Fields) (n : ℕ) → body_of r v n m ≤ body_of r v n (length bs)
@@ -71,29 +66,34 @@ frame_same : (r : Row) (b c : ℕ) → r.boxed ≡ false → frame_of r b ≡ fr
 unfolding frame_of length_of
 frame_same r b c h = rw h refl
 
--- with the columns looked up one by one
-pub asks : (r : Row) {b m c : Bool} {f : Rest} → b ≡ r.boxed → f ≡ r.rest → m ≡ is_measured f → c ≡ (b || m) → c ≡ asks_size r
-unfolding asks_size
-asks r e g h d = rw (d, e, h, g) refl
+measured_not : (f : Rest) → (f ≡ Measured → ⊥) → is_measured f ≡ false
+unfolding is_measured
+measured_not Nothing h = refl
+measured_not Arity h = refl
+measured_not Listed h = refl
+measured_not Counted h = refl
+measured_not Measured h = absurd (h refl)
 
-pub told-nothing : (r : Row) (bs : List ℕ) {c : Bool} → c ≡ asks_size r → c ≡ false → Told r bs 0
-unfolding head_of body_of before_of asks_size
-told-nothing r bs e h =
-    let (b, m) = or_none r.boxed (is_measured r.rest) (sym e ∙ h) in
+-- with the columns looked up one by one
+pub told-nothing : (r : Row) (bs : List ℕ) {c : Bool} {f : Rest} → c ≡ r.boxed → c ≡ false → f ≡ r.rest → (f ≡ Measured → ⊥) → Told r bs 0
+unfolding head_of body_of before_of
+told-nothing r bs e z d h =
+    let b : r.boxed ≡ false = sym e ∙ z in
+    let m = rw d at (measured_not _ h) in
     record {
       same = λ v n. ap₂ (λ x y. x ++ y) (frame_same r (body_of r v n 0) (body_of r v n (length bs)) b) (rw (front_same r.rest n 0 (length bs) m) refl);
       least = λ v n. rw (front_same r.rest n 0 (length bs) m) (omega arith);
       few = omega arith;
     }
 
-pub ready_ops : {r : Row} {v : Fields} {m : ℕ} → Ready r v m → r.ops ≤ 2
-ready_ops {r} {v} h = ops_few r v h.slender
+pub able_ops : {r : Row} {v : Fields} → Able r v → r.ops ≤ 2
+able_ops {r} {v} h = ops_few r v h.slender
 
-module _ {r : Row} {v : Fields} (n : ℕ) {m : ℕ} (h : Ready r v m) where
+module _ {r : Row} {v : Fields} (n : ℕ) {m : ℕ} (h : Able r v) (k : m ≤ 281474983002112) where
   -- every sum fits
   pub body-few : body_of r v n m ≤ 281487867904128
   unfolding body_of
-  body-few = omega (arith, around_few r v h.slender n m, h.size, h.short)
+  body-few = omega (arith, around_few r v h.slender n m, k, h.short)
 
   pub takes-few : takes_of r v n m ≤ 281487867904140
   unfolding takes_of
@@ -103,9 +103,6 @@ module _ {r : Row} {v : Fields} (n : ℕ) {m : ℕ} (h : Ready r v m) where
 pub record Framed (r : Row) (m b : ℕ) : Type 0 where
   pub same : frame_of r b ≡ frame_of r m
   pub least : b ≤ m
-
-pub framed-box : (r : Row) {m b : ℕ} → b ≡ m → Framed r m b
-framed-box r e = record { same = rw e refl; least = omega arith }
 
 pub framed-none : (r : Row) (m : ℕ) {c : Bool} → c ≡ r.boxed → c ≡ false → Framed r m 0
 framed-none r m e f = record { same = frame_same r 0 m (sym e ∙ f); least = omega arith }

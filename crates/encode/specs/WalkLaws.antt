@@ -1,8 +1,7 @@
 -- How the code meets the walk: its equations at an index, the bound on what is written, and the loops over children.
 -- Assumes nothing.
-use Rattle.std.specs.Prelude.{◌≡◌, Bool, true, false, ◌||◌, cond, List, [], ◌∷◌, ◌++◌, map, ℕ, zero, suc, ◌+◌, ◌*◌, ◌-◌, ◌/◌, ◌<◌, ◌≤◌, eqb, length, take, drop}
-use Rattle.std.proofs.Math.Path.{refl, sym}
-use Rattle.std.proofs.Common.{subst, ◌∙◌, arith, sub-one, length-append, length-take, length-drop, ne_eqb}
+use Rattle.std.specs.Prelude.{◌≡◌, Bool, true, false, ◌||◌, cond, List, [], ◌∷◌, ◌++◌, map, ℕ, zero, suc, ◌+◌, ◌*◌, ◌-◌, ◌/◌, ◌<◌, ◌≤◌, ◌⊎◌, eqb, length, take, drop}
+use Rattle.std.proofs.Common.{refl, sym, inl, inr, subst, ◌∙◌, arith, sub-one, length-append, length-take, length-drop}
 use Rattle.std.proofs.lemmas.List.{length-map}
 use Rattle.octets.specs.Filling.{Wrote, Filling, filling_start, filling_fits, filling_lent, filling_left, filling_end, lent, returned}
 use Rattle.grammar.specs.Kinds.{row_of, row_in}
@@ -49,44 +48,16 @@ unfolding list
 list-none f zero ts h = refl
 list-none f (suc n) ts h = absurd (omega arith)
 
-pub list-more : (f : List Term → Part) (n : ℕ) (ts : List Term) → 0 < n
+pub list-more : (f : List Term → Part) (n m : ℕ) (ts : List Term) → n ≡ suc m
     → list f n ts ≡ record {
-      bytes = (f ts).bytes ++ (list f (n - 1) (f ts).rest).bytes;
-      records = (f ts).records + (list f (n - 1) (f ts).rest).records;
-      deep = (f ts).deep || (list f (n - 1) (f ts).rest).deep;
-      rest = (list f (n - 1) (f ts).rest).rest;
+      bytes = (f ts).bytes ++ (list f m (f ts).rest).bytes;
+      records = (f ts).records + (list f m (f ts).rest).records;
+      deep = (f ts).deep || (list f m (f ts).rest).deep;
+      rest = (list f m (f ts).rest).rest;
     }
 unfolding list
-list-more f zero ts p = absurd (omega arith)
-list-more f (suc n) ts p = rw (sub-one (suc n))
-
--- ── A term's figures in normal form, from the tests of its kind
-module _ (k : ℕ) where
-  module _ (e : k ≡ 0xE001) where
-    pub records-eisa : (n : ℕ) → 1 ≡ records_in k n
-    unfolding records_in
-    records-eisa n = rw e refl
-
-    pub deeper-eisa : (l : ℕ) (d : Bool) → false ≡ deeper l k d
-    unfolding deeper
-    deeper-eisa l d = rw e refl
-
-  module _ (x : k ≡ 0xE001 → ⊥) {b : Bool} (e : b ≡ is_buffer k) where
-    pub records-buffer : (n : ℕ) → b ≡ true → 2 ≡ records_in k n
-    unfolding records_in
-    records-buffer n t = rw (ne_eqb k 0xE001 x, sym e ∙ t) refl
-
-    pub records-other : (n : ℕ) → b ≡ false → 1 + n ≡ records_in k n
-    unfolding records_in
-    records-other n t = rw (ne_eqb k 0xE001 x, sym e ∙ t) refl
-
-    pub deeper-buffer : (l : ℕ) (d : Bool) → b ≡ true → eqb l 0 ≡ deeper l k d
-    unfolding deeper
-    deeper-buffer l d t = rw (ne_eqb k 0xE001 x, sym e ∙ t) refl
-
-    pub deeper-other : (l : ℕ) (d : Bool) → b ≡ false → d ≡ deeper l k d
-    unfolding deeper
-    deeper-other l d t = rw (ne_eqb k 0xE001 x, sym e ∙ t) refl
+list-more f zero m ts p = absurd (omega arith)
+list-more f (suc n) m ts p = let e : n ≡ m = omega arith in rw e refl
 
 -- ── The bound: what is written, and what the rest could still take, is no more than what all could take
 unfoldable pub weight : List Term → ℕ
@@ -174,12 +145,10 @@ pub record Measured (p : Part) (records pool : List ℕ) (size n : ℕ) (deep : 
 nothing-measured : {records pool : List ℕ} {ts : List Term} {i : ℕ} → ts ≡ terms_from records pool i → Measured (nothing ts) records pool 0 0 false i
 nothing-measured e = record { counted = refl; recorded = refl; deepened = refl; ends = e }
 
-module _ (records pool : List ℕ) (l i : ℕ) where
-  pub none-measured : l ≡ 0 → Measured (term l (terms_from records pool i)) records pool 0 0 false i
-  none-measured e = rw (term-none _ _ e) (nothing-measured refl)
-
-  pub out_measured : length records / 24 ≤ i → Measured (term l (terms_from records pool i)) records pool 0 0 false i
-  out_measured h = let e = terms-none records pool i h in rw (e, term-nil) (nothing-measured (sym e))
+-- no level is left, or no record
+pub none-measured : (records pool : List ℕ) (l i : ℕ) {n : ℕ} → n ≡ length records / 24 → (l ≡ 0) ⊎ ((l ≡ 0 → ⊥) × (n ≤ i)) → Measured (term l (terms_from records pool i)) records pool 0 0 false i
+none-measured records pool l i q (inl e) = rw (term-none _ _ e) (nothing-measured refl)
+none-measured records pool l i q (inr (z, h)) = let e = terms-none records pool i (omega arith) in rw (e, term-nil) (nothing-measured (sym e))
 
 pub none-listed : (records pool : List ℕ) (f : List Term → Part) (n i : ℕ) → n ≡ 0 → Measured (list f n (terms_from records pool i)) records pool 0 0 false i
 none-listed records pool f n i e = rw (list-none f n (terms_from records pool i) e) (nothing-measured refl)
@@ -191,8 +160,8 @@ pub record Left (records pool : List ℕ) (f : List Term → Part) (whole : Part
   pub depth : deep || (list f n (terms_from records pool next)).deep ≡ whole.deep
   pub ends : (list f n (terms_from records pool next)).rest ≡ whole.rest
 
-pub left-start : (records pool : List ℕ) (f : List Term → Part) (n i : ℕ) → Left records pool f (list f n (terms_from records pool i)) n 0 0 false i
-left-start records pool f n i = record { bytes = omega arith; count = omega arith; depth = refl; ends = refl }
+pub left-start : (records pool : List ℕ) (f : List Term → Part) (n i : ℕ) {m : ℕ} → m ≡ n → Left records pool f (list f n (terms_from records pool i)) m 0 0 false i
+left-start records pool f n i e = rw e (record { bytes = omega arith; count = omega arith; depth = refl; ends = refl })
 
 module _ {records pool : List ℕ} {f : List Term → Part} {whole : Part} {n size k : ℕ} {deep : Bool} {next : ℕ} (h : Left records pool f whole n size k deep next) where
   pub left_end : n ≤ 0 → Measured whole records pool size k deep next
@@ -205,20 +174,19 @@ module _ {records pool : List ℕ} {f : List Term → Part} {whole : Part} {n si
         ends = sym (rw z at h.ends);
       }
 
-  pub left_turn : {cs ck cn : ℕ} {cd b : Bool} → 0 < n → Measured (f (terms_from records pool next)) records pool cs ck cd cn → b ≡ deep || cd
-      → Left records pool f whole (n - 1) (size + cs) (k + ck) b cn
-  left_turn {cs} {ck} {cn} {cd} {b} p m d =
-      let e = list-more f n (terms_from records pool next) p in
+  pub left_turn : {j cs ck cn : ℕ} {cd : Bool} → n ≡ suc j → Measured (f (terms_from records pool next)) records pool cs ck cd cn → Left records pool f whole j (size + cs) (k + ck) (deep || cd) cn
+  left_turn {j} p m =
+      let e = list-more f n j (terms_from records pool next) p in
       record {
         bytes = omega (arith, simp length-append at (rw (e, m.ends) at h.bytes), m.counted);
         count = omega (arith, rw (e, m.ends) at h.count, m.recorded);
-        depth = rw (d, m.deepened, or_assoc) (rw (e, m.ends) at h.depth);
+        depth = rw (m.deepened, or_assoc) (rw (e, m.ends) at h.depth);
         ends = rw (e, m.ends) at h.ends;
       }
 
   -- the sums that a turn makes are within the whole
   pub left-sum : {cs ck cn : ℕ} {cd : Bool} → 0 < n → Measured (f (terms_from records pool next)) records pool cs ck cd cn → (size + cs ≤ length whole.bytes) × (k + ck ≤ whole.records)
-  left-sum p m = let t = left_turn p m refl in (omega (arith, t.bytes), omega (arith, t.count))
+  left-sum p m = let t = left_turn {j = n - 1} (omega arith) m in (omega (arith, t.bytes), omega (arith, t.count))
 
 -- ── A node, from its record and its children
 abbrev pub kids_of : List ℕ → List ℕ → ℕ → ℕ → Record → Part
@@ -270,9 +238,9 @@ pub record Listing (records pool : List ℕ) (f : List Term → Part) (whole : P
   pub fill : Filling whole.bytes (list f n (terms_from records pool next)).bytes at first out
   pub ends : (list f n (terms_from records pool next)).rest ≡ whole.rest
 
-pub listing_start : (records pool : List ℕ) (f : List Term → Part) (n i : ℕ) (out : List ℕ) → length (list f n (terms_from records pool i)).bytes ≤ length out
-    → Listing records pool f (list f n (terms_from records pool i)) n 0 i out out
-listing_start records pool f n i out r = record { fill = filling_start out refl r; ends = refl }
+pub listing_start : (records pool : List ℕ) (f : List Term → Part) (n i : ℕ) (out : List ℕ) {m : ℕ} → m ≡ n → length (list f n (terms_from records pool i)).bytes ≤ length out
+    → Listing records pool f (list f n (terms_from records pool i)) m 0 i out out
+listing_start records pool f n i out e r = rw e (record { fill = filling_start out refl r; ends = refl })
 
 module _ {records pool : List ℕ} {f : List Term → Part} {whole : Part} {n at next : ℕ} {first out : List ℕ} (h : Listing records pool f whole n at next first out) where
   pub listing_end : n ≤ 0 → Put whole records pool first out at next
@@ -280,9 +248,9 @@ module _ {records pool : List ℕ} {f : List Term → Part} {whole : Part} {n at
       let e = list-none f n (terms_from records pool next) (omega arith) in
       record { wrote = filling_end (rw e at h.fill) (omega arith); ends = sym (rw e at h.ends) }
 
-  module _ (p : 0 < n) where
-    more : Filling whole.bytes ((f (terms_from records pool next)).bytes ++ (list f (n - 1) (f (terms_from records pool next)).rest).bytes) at first out
-    more = rw (list-more f n (terms_from records pool next) p) at h.fill
+  module _ {j : ℕ} (p : n ≡ suc j) where
+    more : Filling whole.bytes ((f (terms_from records pool next)).bytes ++ (list f j (f (terms_from records pool next)).rest).bytes) at first out
+    more = rw (list-more f n j (terms_from records pool next) p) at h.fill
 
     pub listing_fits : length (f (terms_from records pool next)).bytes ≤ length (lent at out)
     listing_fits = filling_fits (f (terms_from records pool next)).bytes _ more
@@ -292,10 +260,10 @@ module _ {records pool : List ℕ} {f : List Term → Part} {whole : Part} {n at
     listing_less = omega (arith, simp length-append at (filling_left more))
 
     pub listing_turn : {cs cn : ℕ} {ys : List ℕ} → Put (f (terms_from records pool next)) records pool (lent at out) ys cs cn
-        → Listing records pool f whole (n - 1) (at + cs) cn first (returned at out ys)
+        → Listing records pool f whole j (at + cs) cn first (returned at out ys)
     listing_turn m = record {
       fill = rw m.ends at (filling_lent (f (terms_from records pool next)).bytes _ more m.wrote);
-      ends = rw (list-more f n (terms_from records pool next) p, m.ends) at h.ends;
+      ends = rw (list-more f n j (terms_from records pool next) p, m.ends) at h.ends;
     }
 
 -- nothing is left as it was

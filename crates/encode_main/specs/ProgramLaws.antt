@@ -1,18 +1,22 @@
 -- How the program's code meets its definition: decimal digits as the kit writes them, the room that lines take, what encoding leaves; and
 -- that of longer input the first 65,537 bytes are enough to know.
-use Rattle.std.specs.Prelude.{◌≡◌, refl, Bool, true, false, not, cond, ℕ, zero, suc, ◌+◌, ◌-◌, ◌*◌, ◌/◌, ◌%◌, ◌^◌, ◌≤◌, ◌<◌, eqb, ltb, length, take, drop}
+use Rattle.std.specs.Prelude.{◌≡◌, refl, Bool, true, false, not, cond, ℕ, zero, suc, ◌+◌, ◌-◌, ◌*◌, ◌/◌, ◌%◌, ◌^◌, ◌≤◌, ◌<◌, eqb, ltb, length, take, drop, Result, Ok, Err}
 use Rattle.std.proofs.Math.Path.{sym}
 use Rattle.std.proofs.Common.{ap, ◌∙◌, arith, pow-suc, length-append, length-take, pow-add, take_at, take_all, ne_eqb, eq-eqb, lt-ltb, le-ltb, ltb-true, ltb-false}
 use mathlib.Core.List.{List, [], ◌∷◌, ◌++◌, flatten, append-nil}
 use Rattle.std.proofs.lemmas.List.{length-replicate}
 use Rattle.io.specs.Digits as io
 use Rattle.octets.specs.Filling.{Wrote, wrote-length, Writing, writing_start}
+use Rattle.refusal.specs.declared.Refusal.{Refusal}
+use Rattle.refusal.specs.declared.Refusal.TheVariants.{OutputShort}
+use Rattle.refusal.specs.declared.Fault.{Fault}
+use Rattle.refusal.specs.Number.{number}
+use Rattle.refusal.specs.NumberLaws.{number-injective, number-positive}
 use Rattle.tree.specs.Normal.{norm}
 use Rattle.term.specs.File.{identity}
 use Rattle.checker.specs.Refusal.{refusal_of}
 use Rattle.checker.specs.Described.{forest_of}
-use Rattle.encode.specs.declared.Answer.{Answer}
-use Rattle.encode.specs.Encode.{table_of, late_number, Outcome, refused_by, handed, described, outcome_of, encode_of, Answered}
+use Rattle.encode.specs.Encode.{Answer, table_of, late_number, Outcome, refused_by, handed, described, outcome_of, encode_of, Answered}
 use Rattle.encode_main.specs.Program.{digits, decimal, size_line, refused_word, at_word, refused_line, line_of, printed, empty_output, program_of}
 
 -- ── Decimal
@@ -68,13 +72,20 @@ pub refused-start : (number index : ℕ) (first : List ℕ) → length (refused_
 unfolding refused_line flatten
 refused-start number index first room = writing_start first (record { is = rw append-nil refl }) room
 
-pub line_size : (number index : ℕ) → number ≡ 14 → line_of number index ≡ size_line
+line_size : (number index : ℕ) → number ≡ 14 → line_of number index ≡ size_line
 unfolding line_of
 line_size number index e = rw (eq-eqb number 14 e) refl
 
-pub line_refused : (number index : ℕ) → (number ≡ 14 → ⊥) → line_of number index ≡ refused_line number index
+line_refused : (number index : ℕ) → (number ≡ 14 → ⊥) → line_of number index ≡ refused_line number index
 unfolding line_of
 line_refused number index z = rw (ne_eqb number 14 z) refl
+
+-- by the refusal
+pub line_short : (r : Refusal) (index : ℕ) → r ≡ OutputShort → line_of (number r) index ≡ size_line
+line_short r index e = line_size (number r) index (ap number e)
+
+pub line_other : (r : Refusal) (index : ℕ) {k : ℕ} → (r ≡ OutputShort → ⊥) → k ≡ number r → line_of (number r) index ≡ refused_line k index
+line_other r index n e = rw e (line_refused (number r) index (λ f. n (number-injective r OutputShort f)))
 
 -- two numbers of 20 digits, and 13 bytes around them
 line_most : (number index : ℕ) → length (line_of number index) ≤ 53
@@ -200,35 +211,36 @@ pub line_room : (number index : ℕ) (out : List ℕ) → length out ≡ 65536 �
 line_room number index out e = omega (arith, line_most number index)
 
 -- what is known when encoding has answered
-pub record Tried (f out : List ℕ) (a : Answer) (out' : List ℕ) : Type 0 where
+pub record Tried (f out : List ℕ) (r : Result ℕ Fault) (out' : List ℕ) : Type 0 where
   pub small : length f ≤ 65536
   pub room : length out ≡ 65536
-  pub answered : Answered a out' (encode_of f out)
+  pub answered : Answered r out' (encode_of f out)
 
-pub tried_of : (f out : List ℕ) {a : Answer} {out' : List ℕ} → length f ≤ 65536 → length out ≡ 65536 → Answered a out' (encode_of f out) → Tried f out a out'
+pub tried_of : (f out : List ℕ) {r : Result ℕ Fault} {out' : List ℕ} → length f ≤ 65536 → length out ≡ 65536 → Answered r out' (encode_of f out) → Tried f out r out'
 tried_of f out h e w = record { small = h; room = e; answered = w }
 
-module _ {f out : List ℕ} {a : Answer} {out' : List ℕ} (h : Tried f out a out') where
-  program_printed : program_of f ≡ printed (encode_of f out)
-  unfolding program_of
-  program_printed = rw (le-ltb 65536 (length f) h.small) (printed_encode f empty_output out (empty_length ∙ sym h.room))
+program_printed : {f out : List ℕ} {r : Result ℕ Fault} {out' : List ℕ} → Tried f out r out' → program_of f ≡ printed (encode_of f out)
+unfolding program_of
+program_printed {f} {out} h = rw (le-ltb 65536 (length f) h.small) (printed_encode f empty_output out (empty_length ∙ sym h.room))
 
-  pub program_accepted : a.number ≡ 0 → Wrote (program_of f) out out' a.length
-  program_accepted z = rw (program_printed, h.answered.answer, h.answered.output) ((kept_encode f out).accepted (rw h.answered.answer at z))
+pub program_accepted : {f out out' : List ℕ} {n : ℕ} → Tried f out (Ok n) out' → Wrote (program_of f) out out' n
+program_accepted {f} {out} h =
+    let w = (kept_encode f out).accepted (ap (λ (a : Answer). a.number) (sym h.answered.answer)) in
+    rw (program_printed h, h.answered.output, ap (λ (a : Answer). a.length) h.answered.answer) w
 
-  module _ (z : a.number ≡ 0 → ⊥) where
-    abbrev refused : (encode_of f out).answer.number ≡ 0 → ⊥
-    refused = rw h.answered.answer at z
+module _ {f out : List ℕ} {fault : Fault} {out' : List ℕ} (h : Tried f out (Err fault) out') where
+  abbrev refused : (encode_of f out).answer.number ≡ 0 → ⊥
+  refused z = omega (arith, number-positive fault.refusal, ap (λ (a : Answer). a.number) h.answered.answer)
 
-    pub program_same : out' ≡ out
-    program_same = h.answered.output ∙ (kept_encode f out).refused refused
+  program_same : out' ≡ out
+  program_same = h.answered.output ∙ (kept_encode f out).refused refused
 
-    program_line : program_of f ≡ line_of a.number a.index
-    unfolding printed
-    program_line = program_printed ∙ rw h.answered.answer (rw (ne_eqb (encode_of f out).answer.number 0 refused) refl)
+  program_line : program_of f ≡ line_of (number fault.refusal) fault.index
+  unfolding printed
+  program_line = program_printed h ∙ rw (ne_eqb (encode_of f out).answer.number 0 refused) (rw (← h.answered.answer) refl)
 
-    pub program_room : length (line_of a.number a.index) ≤ length out'
-    program_room = rw program_same (line_room a.number a.index out h.room)
+  pub program_room : length (line_of (number fault.refusal) fault.index) ≤ length out'
+  program_room = rw program_same (line_room (number fault.refusal) fault.index out h.room)
 
-    pub program_refused : {last : List ℕ} {r : ℕ} → Wrote (line_of a.number a.index) out' last r → Wrote (program_of f) out last r
-    program_refused w = rw (program_line, ← program_same) w
+  pub program_refused : {last : List ℕ} {r : ℕ} → Wrote (line_of (number fault.refusal) fault.index) out' last r → Wrote (program_of f) out last r
+  program_refused w = rw (program_line, ← program_same) w

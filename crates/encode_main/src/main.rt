@@ -4,7 +4,10 @@
 
 ghost use Rattle.std.specs.Prelude.{◌≡◌, ◌≤◌, length};
 ghost use Rattle.octets.specs.Filling.{Wrote};
+ghost use Rattle.refusal.specs.Number.{number};
 ghost use Rattle.encode_main.specs.Program.{decimal, refused_line, line_of, program_of};
+
+use refusal::{Fault, Refusal};
 
 // Standard input.
 const STDIN_FILENO: i32 = 0;
@@ -22,28 +25,29 @@ fn put_decimal(n: u64, out: &mut [u8]) -> usize
 }
 
 // "refused N at R" and the line's end.
+#[tactic(auto, unfolding(crate::specs::Program::refused_line))]
 fn put_refused(number: u64, index: u64, out: &mut [u8]) -> usize
     requires { length (refused_line number index) ≤ length out.old }
     ensures { Wrote (refused_line number index) out.old out.new result }
 {
     let mut at = 0;
-    at = at + octets::put_slice(b"refused ", &mut out[at..]);
-    at = at + put_decimal(number, &mut out[at..]);
-    at = at + octets::put_slice(b" at ", &mut out[at..]);
-    at = at + put_decimal(index, &mut out[at..]);
-    at = at + octets::put_slice(b"\n", &mut out[at..]);
+    at += octets::put_slice(b"refused ", &mut out[at..]);
+    at += put_decimal(number, &mut out[at..]);
+    at += octets::put_slice(b" at ", &mut out[at..]);
+    at += put_decimal(index, &mut out[at..]);
+    at += octets::put_slice(b"\n", &mut out[at..]);
     at
 }
 
 // A refusal's line; 14, a table longer than the output, has the line of input that is too long.
-fn put_line(number: u64, index: u64, out: &mut [u8]) -> usize
-    requires { length (line_of number index) ≤ length out.old }
-    ensures { Wrote (line_of number index) out.old out.new result }
+fn put_line(fault: Fault, out: &mut [u8]) -> usize
+    requires { length (line_of (number fault.refusal) fault.index) ≤ length out.old }
+    ensures { Wrote (line_of (number fault.refusal) fault.index) out.old out.new result }
 {
-    if number == 14 {
-        return octets::put_slice(b"refused size\n", out);
+    match fault.refusal {
+        Refusal::OutputShort => octets::put_slice(b"refused size\n", out),
+        refusal => put_refused(u64::from(refusal.number()), fault.index, out),
     }
-    put_refused(number, index, out)
 }
 
 // All that the program writes for this input.
@@ -52,13 +56,12 @@ fn answer(input: &[u8], out: &mut [u8]) -> usize
     ensures { Wrote (program_of input.now) out.old out.new result }
 {
     if 65536 < input.len() {
-        return put_line(14, 0, out);
+        return put_line(Refusal::OutputShort.into(), out);
     }
-    let a = encode::encode(input, out);
-    if a.number == 0 {
-        return a.length as usize;
+    match encode::encode(input, out) {
+        Ok(size) => size,
+        Err(fault) => put_line(fault, out),
     }
-    put_line(a.number as u64, a.index, out)
 }
 
 // One byte more than a file may have: input that fills it is too long, whatever follows.
@@ -73,5 +76,5 @@ fn main() {
     let n = io::read_full(STDIN_FILENO, &mut input);
     let mut out = io::large_buffer();
     let k = answer(&input[..n], &mut out);
-    io::write_all(STDOUT_FILENO, &out[0..k]);
+    io::write_all(STDOUT_FILENO, &out[..k]);
 }

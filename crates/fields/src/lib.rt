@@ -11,7 +11,7 @@ ghost use Rattle.fields.specs.Fields.{flags_fit, form_fits, numbers_fit, text_fi
 pub fn flags_fit(a: u64) -> bool
     ensures { result ≡ flags_fit a }
 {
-    octets::both(a % 16 <= 5, a / 32 <= 2)
+    a % 16 <= 5 && a / 32 <= 2
 }
 
 fn form_fits(numbers: grammar::Numbers, a: u64) -> bool
@@ -26,16 +26,15 @@ fn form_fits(numbers: grammar::Numbers, a: u64) -> bool
 fn numbers_fit(row: grammar::Row, a: u64, x: u64) -> bool
     ensures { result ≡ numbers_fit row a x }
 {
-    let limited = octets::both(a <= row.alimit, x <= row.xlimit);
-    let numbers = row.numbers;
-    octets::both(limited, form_fits(numbers, a))
+    let limited = a <= row.alimit && x <= row.xlimit;
+    limited && form_fits(row.numbers, a)
 }
 
 fn text_fits(text: grammar::Text, kind: u64, t: &[u8], a: u64, x: u64) -> bool
     ensures { result ≡ text_fits text kind t.now a x }
 {
     match text {
-        grammar::Text::Unused => t.len() == 0,
+        grammar::Text::Unused => t.is_empty(),
         grammar::Text::DescriptorText => descriptor::descriptor_in_range(kind, t, a, x),
         _ => true,
     }
@@ -45,8 +44,7 @@ fn text_fits(text: grammar::Text, kind: u64, t: &[u8], a: u64, x: u64) -> bool
 pub fn in_range(row: grammar::Row, t: &[u8], a: u64, x: u64) -> bool
     ensures { result ≡ in_range row t.now a x }
 {
-    let text = row.text;
-    octets::both(numbers_fit(row, a, x), text_fits(text, row.kind, t, a, x))
+    numbers_fit(row, a, x) && text_fits(row.text, row.kind, t, a, x)
 }
 
 // ── 6: malformed
@@ -56,10 +54,8 @@ fn is_ascii(t: &[u8]) -> bool
     ensures { result ≡ every ascii t.now }
 {
     let mut fine = true;
-    let mut i = 0;
-    while i < t.len() {
-        fine = octets::both(fine, octets::between(1, t[i], 127));
-        i = i + 1;
+    for byte in t {
+        fine &= (1 <= *byte) & (*byte <= 127);
     }
     fine
 }
@@ -69,7 +65,7 @@ fn text_spelled(text: grammar::Text, kind: u64, t: &[u8]) -> bool
 {
     match text {
         grammar::Text::PathText => path::is_path(t),
-        grammar::Text::SegmentText => octets::both(t.len() == 4, path::is_segment(t, 0)),
+        grammar::Text::SegmentText => t.len() == 4 && path::is_segment(t, 0),
         grammar::Text::Ascii => is_ascii(t),
         grammar::Text::EisaText => ident::is_eisa(t),
         grammar::Text::UuidText => ident::is_uuid(t),
@@ -83,6 +79,5 @@ fn text_spelled(text: grammar::Text, kind: u64, t: &[u8]) -> bool
 pub fn is_spelled(row: grammar::Row, t: &[u8]) -> bool
     ensures { result ≡ spelled row t.now }
 {
-    let text = row.text;
-    text_spelled(text, row.kind, t)
+    text_spelled(row.text, row.kind, t)
 }

@@ -81,6 +81,6 @@ module _ (r : Row) (v : Fields) (n : ℕ) (bs : List ℕ) where
   term-length = rw (framed r.boxed) (simp length-append (omega (arith, body-size)))
 
 -- the frame's two parts, from columns that were looked up one by one
-pub frame_parts : (r : Row) (m : ℕ) {k o : ℕ} {b : Bool} → k ≡ r.ops → o ≡ r.op → b ≡ r.boxed → Parts (frame_of r m) (le k o ∷ length_of b m ∷ [])
-unfolding frame_of opcode flatten
-frame_parts r m e f g = record { is = rw (e, f, g) (simp append-nil) }
+pub frame_join : (r : Row) (m : ℕ) {k o : ℕ} {b : Bool} → k ≡ r.ops → o ≡ r.op → b ≡ r.boxed → frame_of r m ≡ le k o ++ length_of b m
+unfolding frame_of opcode
+frame_join r m e f g = rw (e, f, g) refl

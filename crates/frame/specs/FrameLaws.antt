@@ -5,10 +5,10 @@ use Rattle.std.proofs.Math.Path.{refl}
 use Rattle.std.proofs.Math.Bool.{true, false, cond}
 use native.Mathlib.Omega.{arith}
 use Rattle.std.proofs.Math.ListN.{length}
-use Rattle.std.proofs.Common.{length-append}
+use Rattle.std.proofs.Common.{ap, length-append, length-drop, take_at, drop_at}
 use Rattle.octets.specs.Bytes.{le}
 use Rattle.octets.specs.Laws.{le-length}
-use Rattle.octets.specs.Filling.{Wrote}
+use Rattle.octets.specs.Filling.{Wrote, Filling}
 use Rattle.number.specs.IntegerLaws.{integer-most}
 use Rattle.number.specs.PkgLengthLaws.{following-most, pkg_length-length}
 use Rattle.grammar.specs.declared.Rest.{Rest}
@@ -22,6 +22,22 @@ use Rattle.frame.specs.Frame.{length_of, frame_of, front_of, before_of, beside_o
 
 pub wrote_none : (out : List ℕ) → Wrote [] out out 0
 wrote_none out = record { count = refl; is = refl }
+
+-- ── Two writers in a row: the first is lent the whole buffer, the second what is behind its part
+module _ {bs : List ℕ} (p q first : List ℕ) (e : bs ≡ p ++ q) (room : length bs ≤ length first) where
+  pub first_fits : length p ≤ length first
+  first_fits = omega (arith, room, ap length e, length-append p q)
+
+  pub second_part : {out : List ℕ} {n : ℕ} → Wrote p first out n → Filling bs q n first out
+  second_part w =
+      let fits = first_fits in
+      rw (w.count, w.is) (record {
+        bytes = rw (take_at p _ _ refl) e;
+        past = drop_at p _ _ refl;
+        len = simp (length-append, length-drop) (omega (arith, fits));
+        within = simp length-append (omega arith);
+        room = room;
+      })
 
 -- ── Sizes
 pub length_most : (b : Bool) (m : ℕ) → length (length_of b m) ≤ 4
@@ -54,15 +70,6 @@ unfolding beside_of
 beside_most true f n m = omega (arith, front-most f n m, back-most f)
 beside_most false f n m = omega arith
 
-module _ (f : Rest) (n m : ℕ) where
-  pub beside_last : {b : Bool} → b ≡ true → length (front_of f n m) + length (back f) ≡ beside_of b f n m
-  unfolding beside_of
-  beside_last e = rw e refl
-
-  pub beside_first : {b : Bool} → b ≡ false → 0 ≡ beside_of b f n m
-  unfolding beside_of
-  beside_first e = rw e refl
-
 -- ── The fields stand on one side of the children; the columns may have been looked up one by one
 module _ (r : Row) (v : Fields) {b : Bool} (e : b ≡ r.last) where
   pub before-first : (n m : ℕ) → b ≡ false → before_of r v n m ≡ field_bytes r v
@@ -86,6 +93,7 @@ module _ (r : Row) (v : Fields) {b : Bool} (e : b ≡ r.last) where
     unfolding before_of behind beside_of
     around_length n m = rw (e, g) (by r.last)
       where
-        by : (b : Bool) → length (cond b (front_of r.rest n m) (field_bytes r v)) + length (cond b (field_bytes r v ++ back r.rest) []) ≡ length (field_bytes r v) + cond b (length (front_of r.rest n m) + length (back r.rest)) 0
+        by : (b : Bool) → length (cond b (front_of r.rest n m) (field_bytes r v)) + length (cond b (field_bytes r v ++ back r.rest) [])
+            ≡ length (field_bytes r v) + cond b (length (front_of r.rest n m) + length (back r.rest)) 0
         by true = rw (length-append (field_bytes r v) (back r.rest)) (omega arith)
         by false = omega arith

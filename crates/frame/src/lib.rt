@@ -8,25 +8,31 @@ ghost use Rattle.written.specs.Fine.{Fine, fields_of};
 ghost use Rattle.tree.specs.Bytes.{back, behind};
 ghost use Rattle.frame.specs.Frame.{length_of, frame_of, front_of, before_of, beside_of};
 
+use grammar::Rest;
+
 // ── The frame: opcode, and the PkgLength of the body
 
+#[tactic(auto, unfolding(crate::specs::Frame::length_of))]
 fn length_len(boxed: bool, body: u64) -> usize
     ensures { result ≡ length (length_of boxed body) }
 {
     if boxed {
-        return number::pkg_length_len(body);
+        number::pkg_length_len(body)
+    } else {
+        0
     }
-    0
 }
 
+#[tactic(auto, using(crate::specs::FrameLaws::wrote_none), unfolding(crate::specs::Frame::length_of))]
 fn put_length(boxed: bool, body: u64, out: &mut [u8]) -> usize
     requires { (length (length_of boxed body) ≤ length out.old) × (body ≤ 268435455) }
     ensures { Wrote (length_of boxed body) out.old out.new result }
 {
     if boxed {
-        return number::create_pkg_length(body, true, out);
+        number::create_pkg_length(body, true, out)
+    } else {
+        0
     }
-    0
 }
 
 // The bytes before a body of so many bytes.
@@ -44,76 +50,70 @@ pub fn put_frame(j: usize, body: u64, out: &mut [u8]) -> usize
     let ops = grammar::ops_at(j) as usize;
     let op = grammar::op_at(j);
     let boxed = grammar::boxed_at(j);
-    let mut at = 0;
-    at = at + octets::put_le(ops, op, &mut out[at..]);
-    at = at + put_length(boxed, body, &mut out[at..]);
-    at
+    let at = octets::put_le(ops, op, out);
+    at + put_length(boxed, body, &mut out[at..])
 }
 
 // ── What the children have around them where the fields stand behind: their number, or a template's size and its end tag
 
-fn front_len(rest: grammar::Rest, n: u64, size: u64) -> usize
+#[tactic(auto, unfolding(crate::specs::Frame::front_of, octets::specs::Bytes::le))]
+fn front_len(rest: Rest, n: u64, size: u64) -> usize
     requires { size ≤ 1152921504606846976 }
     ensures { result ≡ length (front_of rest n size) }
 {
     match rest {
-        grammar::Rest::Nothing => 0,
-        grammar::Rest::Arity => 0,
-        grammar::Rest::Listed => 0,
-        grammar::Rest::Counted => 1,
-        grammar::Rest::Measured => number::int_len(size + 2),
+        Rest::Nothing | Rest::Arity | Rest::Listed => 0,
+        Rest::Counted => 1,
+        Rest::Measured => number::int_len(size + 2),
     }
 }
 
-fn put_front(rest: grammar::Rest, n: u64, size: u64, out: &mut [u8]) -> usize
+#[tactic(auto, using(crate::specs::FrameLaws::wrote_none), unfolding(crate::specs::Frame::front_of))]
+fn put_front(rest: Rest, n: u64, size: u64, out: &mut [u8]) -> usize
     requires { (length (front_of rest n size) ≤ length out.old) × (size ≤ 1152921504606846976) }
     ensures { Wrote (front_of rest n size) out.old out.new result }
 {
     match rest {
-        grammar::Rest::Nothing => 0,
-        grammar::Rest::Arity => 0,
-        grammar::Rest::Listed => 0,
-        grammar::Rest::Counted => octets::put_le(1, n, out),
-        grammar::Rest::Measured => number::put_int(size + 2, out),
+        Rest::Nothing | Rest::Arity | Rest::Listed => 0,
+        Rest::Counted => octets::put_le(1, n, out),
+        Rest::Measured => number::put_int(size + 2, out),
     }
 }
 
-fn back_len(rest: grammar::Rest) -> usize
+#[tactic(auto, unfolding(tree::specs::Bytes::back))]
+fn back_len(rest: Rest) -> usize
     ensures { result ≡ length (back rest) }
 {
     match rest {
-        grammar::Rest::Nothing => 0,
-        grammar::Rest::Arity => 0,
-        grammar::Rest::Listed => 0,
-        grammar::Rest::Counted => 0,
-        grammar::Rest::Measured => 2,
+        Rest::Measured => 2,
+        Rest::Nothing | Rest::Arity | Rest::Listed | Rest::Counted => 0,
     }
 }
 
-fn put_back(rest: grammar::Rest, out: &mut [u8]) -> usize
+#[tactic(auto, using(crate::specs::FrameLaws::wrote_none), unfolding(tree::specs::Bytes::back))]
+fn put_back(rest: Rest, out: &mut [u8]) -> usize
     requires { length (back rest) ≤ length out.old }
     ensures { Wrote (back rest) out.old out.new result }
 {
     match rest {
-        grammar::Rest::Nothing => 0,
-        grammar::Rest::Arity => 0,
-        grammar::Rest::Listed => 0,
-        grammar::Rest::Counted => 0,
-        grammar::Rest::Measured => descriptor::put_end_tag(out),
+        Rest::Measured => descriptor::put_end_tag(out),
+        Rest::Nothing | Rest::Arity | Rest::Listed | Rest::Counted => 0,
     }
 }
 
 // ── What stands before n children of so many bytes, and what stands behind them: the fields are on one side of them
 
 // The bytes of both, beside the fields.
-fn beside_len(last: bool, rest: grammar::Rest, n: u64, size: u64) -> usize
+#[tactic(auto, unfolding(crate::specs::Frame::beside_of))]
+fn beside_len(last: bool, rest: Rest, n: u64, size: u64) -> usize
     requires { size ≤ 1152921504606846976 }
     ensures { result ≡ beside_of «last» rest n size }
 {
     if last {
-        return front_len(rest, n, size) + back_len(rest);
+        front_len(rest, n, size) + back_len(rest)
+    } else {
+        0
     }
-    0
 }
 
 // The bytes of both.
@@ -121,8 +121,7 @@ pub fn around_len(j: usize, t: &[u8], a: u64, x: u64, n: u64, size: u64) -> usiz
     requires { Fine (row_at j) (fields_of t.now a x) × (size ≤ 1152921504606846976) }
     ensures { result ≡ length (before_of (row_at j) (fields_of t.now a x) n size) + length (behind (row_at j) (fields_of t.now a x)) }
 {
-    let rest = grammar::rest_at(j);
-    written::field_len(j, t, a, x) + beside_len(grammar::last_at(j), rest, n, size)
+    written::field_len(j, t, a, x) + beside_len(grammar::last_at(j), grammar::rest_at(j), n, size)
 }
 
 pub fn put_before(j: usize, t: &[u8], a: u64, x: u64, n: u64, size: u64, out: &mut [u8]) -> usize
@@ -130,21 +129,19 @@ pub fn put_before(j: usize, t: &[u8], a: u64, x: u64, n: u64, size: u64, out: &m
     ensures { Wrote (before_of (row_at j) (fields_of t.now a x) n size) out.old out.new result }
 {
     if grammar::last_at(j) {
-        let rest = grammar::rest_at(j);
-        return put_front(rest, n, size, out);
+        put_front(grammar::rest_at(j), n, size, out)
+    } else {
+        written::put_fields(j, t, a, x, out)
     }
-    written::put_fields(j, t, a, x, out)
 }
 
 pub fn put_behind(j: usize, t: &[u8], a: u64, x: u64, out: &mut [u8]) -> usize
     requires { Fine (row_at j) (fields_of t.now a x) × (length (behind (row_at j) (fields_of t.now a x)) ≤ length out.old) }
     ensures { Wrote (behind (row_at j) (fields_of t.now a x)) out.old out.new result }
 {
-    let mut at = 0;
-    if grammar::last_at(j) {
-        let rest = grammar::rest_at(j);
-        at = at + written::put_fields(j, t, a, x, &mut out[at..]);
-        at = at + put_back(rest, &mut out[at..]);
+    if !grammar::last_at(j) {
+        return 0;
     }
-    at
+    let at = written::put_fields(j, t, a, x, out);
+    at + put_back(grammar::rest_at(j), &mut out[at..])
 }

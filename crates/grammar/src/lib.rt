@@ -2,13 +2,13 @@
 #![tactic(auto)]
 
 ghost use Rattle.std.specs.Prelude.{◌≡◌, ◌+◌, ◌<◌, drop};
-ghost use Rattle.grammar.specs.Kinds.{kinds, rank, stands, child_place};
+ghost use Rattle.grammar.specs.Kinds.{kinds, stands, child_place};
 ghost use Rattle.grammar.specs.Packed.{position, row_at, place_of, places_of, text_of, rest_of, numbers_of, unpack, entry, words, seconds, thirds};
 ghost use Rattle.grammar.specs.Family.{family_of};
 
 // Where a term may stand: in a list (L), as an operand or a target (V), as data (D); as a package's element, a field's entry, a
 // template's descriptor.
-#[derive(Clone, Copy)]
+#[derive(Clone, Copy, Debug, PartialEq, Eq)]
 pub enum Place {
     InList,
     Operand,
@@ -19,7 +19,7 @@ pub enum Place {
 }
 
 // Where a kind may stand, as document 01 writes it: L, L V, L V of a name, V, V D; and the two kinds of entries.
-#[derive(Clone, Copy)]
+#[derive(Clone, Copy, Debug, PartialEq, Eq)]
 pub enum Places {
     Lists,
     ListsOperands,
@@ -31,7 +31,7 @@ pub enum Places {
 }
 
 // What a kind's text is: a string's bytes are 01-7F and 00 ends it; a buffer's go to the end of its body.
-#[derive(Clone, Copy)]
+#[derive(Clone, Copy, Debug, PartialEq, Eq)]
 pub enum Text {
     Unused,
     PathText,
@@ -45,7 +45,7 @@ pub enum Text {
 
 // How a and x are written: base + a in so many bytes; a method's flags, a + 8 times x; a power resource's level x, then its order a; a
 // as the flags of a field; x as an integer; x as the length of a field's entry.
-#[derive(Clone, Copy)]
+#[derive(Clone, Copy, Debug, PartialEq, Eq)]
 pub enum Numbers {
     Digits { width: u64, base: u64 },
     MethodFlags,
@@ -57,7 +57,7 @@ pub enum Numbers {
 
 // Which children stand behind the operands: none; as many as the path's arity; a list, to the end of the body; up to 255 with their
 // number before them; or any number with the size of their bytes before them and the end tag behind.
-#[derive(Clone, Copy)]
+#[derive(Clone, Copy, Debug, PartialEq, Eq)]
 pub enum Rest {
     Nothing,
     Arity,
@@ -87,8 +87,9 @@ pub struct Row {
     pub places: Places,
 }
 
-// ── Columns, from the digits of a row's number
+// ── Columns, from the digits of a row's number. Functions, not `From`: the digits are those of the rows alone.
 
+#[tactic(auto, unfolding(crate::specs::Packed::place_of))]
 fn place_of(c: u64) -> Place
     ensures { result ≡ place_of c }
 {
@@ -102,6 +103,7 @@ fn place_of(c: u64) -> Place
     }
 }
 
+#[tactic(auto, unfolding(crate::specs::Packed::places_of))]
 fn places_of(c: u64) -> Places
     ensures { result ≡ places_of c }
 {
@@ -116,6 +118,7 @@ fn places_of(c: u64) -> Places
     }
 }
 
+#[tactic(auto, unfolding(crate::specs::Packed::text_of))]
 fn text_of(c: u64) -> Text
     ensures { result ≡ text_of c }
 {
@@ -131,6 +134,7 @@ fn text_of(c: u64) -> Text
     }
 }
 
+#[tactic(auto, unfolding(crate::specs::Packed::rest_of))]
 fn rest_of(c: u64) -> Rest
     ensures { result ≡ rest_of c }
 {
@@ -143,6 +147,7 @@ fn rest_of(c: u64) -> Rest
     }
 }
 
+#[tactic(auto, unfolding(crate::specs::Packed::numbers_of))]
 fn numbers_of(c: u64, width: u64, base: u64) -> Numbers
     ensures { result ≡ numbers_of c width base }
 {
@@ -156,136 +161,27 @@ fn numbers_of(c: u64, width: u64, base: u64) -> Numbers
     }
 }
 
-// ── The rows, a number each, and by its last digits two more: constants in a match, which the machine code reads from one table. An
-// array constant would be made anew on the stack at every look-up.
-
-fn last_word(j: usize) -> u64
-    ensures { result ≡ entry (drop 45 words) 45 j }
-{
-    match j {
-        45 => 0x984000279009E,
-        46 => 0x1104900000002E,
-        47 => 0x1D9040000000060,
-        48 => 0x219040000000068,
-        49 => 0x26104000000000E,
-        50 => 0x21040003FD00FF,
-        51 => 0x2104300035000D,
-        52 => 0x21244C00450011,
-        53 => 0x23058C00490012,
-        54 => 0x21240C004D0013,
-        55 => 0x2A904000001F000,
-        56 => 0x2A904200000F001,
-        57 => 0x2104500000E001,
-        58 => 0x2104600000E002,
-        59 => 0x25060C0045E003,
-        60 => 0x2F104700000E047,
-        61 => 0x2F104700000E082,
-        62 => 0x2F104700000E086,
-        63 => 0x2F104700000E089,
-        64 => 0x2F104700000E088,
-        65 => 0x2F104700000E087,
-        66 => 0x2F104700000E08A,
-        _ => 0,
-    }
-}
-
-fn middle_word(j: usize) -> u64
-    ensures { result ≡ entry (drop 23 words) 23 j }
-{
-    match j {
-        23 => 0x9440002510094,
-        24 => 0x9440002550095,
-        25 => 0x944024E4A9293,
-        26 => 0x94402524A9294,
-        27 => 0x94402564A9295,
-        28 => 0x9440002590096,
-        29 => 0x9440002650099,
-        30 => 0x9640001C90072,
-        31 => 0x9640001CD0073,
-        32 => 0x9640001D10074,
-        33 => 0x9640001DD0077,
-        34 => 0x9640001E50079,
-        35 => 0x9640001E9007A,
-        36 => 0x9640001ED007B,
-        37 => 0x9640001F1007C,
-        38 => 0x9640001F5007D,
-        39 => 0x9640001F9007E,
-        40 => 0x9640001FD007F,
-        41 => 0x9640002110084,
-        42 => 0x9640002150085,
-        43 => 0x9640002210088,
-        44 => 0x964000271009C,
-        _ => last_word(j),
-    }
-}
+// ── The rows, a number each, and by its last digits two more. The tables are statics, whose entries the machine code reads where they
+// stand: an array constant would be made anew on the stack at every look-up.
 
 fn word_of(j: usize) -> u64
     ensures { result ≡ entry words 0 j }
 {
-    match j {
-        0 => 0x2281000210008,
-        1 => 0x11400410010,
-        2 => 0x116096E5B82,
-        3 => 0x40011400510014,
-        4 => 0x800116116E5B84,
-        5 => 0xC41116056E5B81,
-        6 => 0x1014412016E5B80,
-        7 => 0x1410410056E5B01,
-        8 => 0x18904108D6E5B23,
-        9 => 0x104109D6E5B27,
-        10 => 0x164184D6E5B13,
-        11 => 0x144180229008A,
-        12 => 0x14418023D008F,
-        13 => 0x2504028100A0,
-        14 => 0x2504028900A2,
-        15 => 0x504028500A1,
-        16 => 0x12400029100A4,
-        17 => 0x1440002190086,
-        18 => 0x9440001C10070,
-        19 => 0x92400020D0083,
-        20 => 0x92400021D0087,
-        21 => 0x924000239008E,
-        22 => 0x94400024D0093,
-        _ => middle_word(j),
-    }
+    if j < WORDS.len() { WORDS[j] } else { 0 }
 }
 
 fn second_of(c: u64) -> u64
     ensures { result ≡ entry seconds 1 c }
 {
-    match c {
-        1 => 0xE001,
-        2 => 0x1FFFE002,
-        3 => 0x1FE003,
-        4 => 0x12008,
-        5 => 0x1E008,
-        6 => 0x1FFFE010,
-        7 => 0xEC08,
-        8 => 0xCD08,
-        9 => 0x4,
-        10 => 0x5,
-        11 => 0x1FFFE000,
-        _ => 0,
-    }
+    let i = c as usize;
+    if i < SECONDS.len() { SECONDS[i] } else { 0 }
 }
 
 fn third_of(c: u64) -> u64
     ensures { result ≡ entry thirds 1 c }
 {
-    match c {
-        1 => 0x1,
-        2 => 0xFF,
-        3 => 0x0,
-        4 => 0x0,
-        5 => 0x0,
-        6 => 0x0,
-        7 => 0x0,
-        8 => 0x0,
-        9 => 0xFFFFFFFFFFFFFFFF,
-        10 => 0xFFFFFFF,
-        11 => 0xFFFFFFFFFFFFFFFF,
-        _ => 0,
-    }
+    let i = c as usize;
+    if i < THIRDS.len() { THIRDS[i] } else { 0 }
 }
 
 fn unpacked(w: u64) -> Row
@@ -377,7 +273,9 @@ pub fn rest_at(j: usize) -> Rest
 
 // ── Looked up
 
-// Where a kind stands in the table. 67 is none.
+// Where a kind stands in the table. 67 is none, as a number: whoever has checked the kind takes the place as it is. Arms of a match,
+// since a search along the table would take the more steps the further back a kind stands.
+#[tactic(auto, unfolding(crate::specs::Packed::position, crate::specs::Kinds::kinds, crate::specs::Kinds::normal_kinds, crate::specs::Kinds::other_kinds))]
 fn last_position(kind: u64) -> usize
     ensures { result ≡ 45 + position kind (drop 45 kinds) }
 {
@@ -408,6 +306,7 @@ fn last_position(kind: u64) -> usize
     }
 }
 
+#[tactic(auto, unfolding(crate::specs::Packed::position, crate::specs::Kinds::kinds, crate::specs::Kinds::normal_kinds, crate::specs::Kinds::other_kinds))]
 fn middle_position(kind: u64) -> usize
     ensures { result ≡ 23 + position kind (drop 23 kinds) }
 {
@@ -438,6 +337,7 @@ fn middle_position(kind: u64) -> usize
     }
 }
 
+#[tactic(auto, unfolding(crate::specs::Packed::position, crate::specs::Kinds::kinds, crate::specs::Kinds::normal_kinds, crate::specs::Kinds::other_kinds))]
 pub fn position_of(kind: u64) -> usize
     ensures { result ≡ position kind kinds }
 {
@@ -469,7 +369,8 @@ pub fn position_of(kind: u64) -> usize
     }
 }
 
-// The family of kinds that begins with a byte: its kind, or the first byte of kinds with two; 0 is none.
+// The family of kinds that begins with a byte, as document 01's table of 256 codes has it: its kind, or the first byte of kinds with
+// two; 0 is none.
 pub fn family(b: u8) -> u8
     ensures { result ≡ family_of b }
 {
@@ -477,48 +378,127 @@ pub fn family(b: u8) -> u8
 }
 
 // Where child j of a kind stands.
+#[tactic(auto, unfolding(crate::specs::Kinds::child_place))]
 pub fn child_place(row: Row, j: u64) -> Place
     ensures { result ≡ child_place row j }
 {
     if j < row.operands {
-        return row.operand;
-    }
-    row.place
-}
-
-// The place as a number.
-pub fn rank_of(p: Place) -> u64
-    ensures { result ≡ rank p }
-{
-    match p {
-        Place::InList => 0,
-        Place::Operand => 1,
-        Place::Datum => 2,
-        Place::Element => 3,
-        Place::FieldEntry => 4,
-        Place::Descriptor => 5,
+        row.operand
+    } else {
+        row.place
     }
 }
 
 // Whether a kind may stand in a place.
+#[tactic(auto, unfolding(crate::specs::Kinds::rank, crate::specs::Kinds::is, crate::specs::Kinds::stands))]
 pub fn may_stand(places: Places, place: Place) -> bool
     ensures { result ≡ stands places place }
 {
-    let p = rank_of(place);
     match places {
-        Places::Lists => p == 0,
-        Places::ListsOperands => octets::either(p == 0, p == 1),
-        Places::Names => octets::either(octets::either(p == 0, p == 1), p == 3),
-        Places::Operands => p == 1,
-        Places::Data => octets::either(octets::either(p == 1, p == 2), p == 3),
-        Places::FieldEntries => p == 4,
-        Places::Descriptors => p == 5,
+        Places::Lists => matches!(place, Place::InList),
+        Places::ListsOperands => matches!(place, Place::InList | Place::Operand),
+        Places::Names => matches!(place, Place::InList | Place::Operand | Place::Element),
+        Places::Operands => matches!(place, Place::Operand),
+        Places::Data => matches!(place, Place::Operand | Place::Datum | Place::Element),
+        Places::FieldEntries => matches!(place, Place::FieldEntry),
+        Places::Descriptors => matches!(place, Place::Descriptor),
     }
 }
 
-// ── The constant
+// ── The tables
 
-const FAMILY: [u8; 256] = [
+static WORDS: [u64; 67] = [
+    0x2281000210008,
+    0x11400410010,
+    0x116096E5B82,
+    0x40011400510014,
+    0x800116116E5B84,
+    0xC41116056E5B81,
+    0x1014412016E5B80,
+    0x1410410056E5B01,
+    0x18904108D6E5B23,
+    0x104109D6E5B27,
+    0x164184D6E5B13,
+    0x144180229008A,
+    0x14418023D008F,
+    0x2504028100A0,
+    0x2504028900A2,
+    0x504028500A1,
+    0x12400029100A4,
+    0x1440002190086,
+    0x9440001C10070,
+    0x92400020D0083,
+    0x92400021D0087,
+    0x924000239008E,
+    0x94400024D0093,
+    0x9440002510094,
+    0x9440002550095,
+    0x944024E4A9293,
+    0x94402524A9294,
+    0x94402564A9295,
+    0x9440002590096,
+    0x9440002650099,
+    0x9640001C90072,
+    0x9640001CD0073,
+    0x9640001D10074,
+    0x9640001DD0077,
+    0x9640001E50079,
+    0x9640001E9007A,
+    0x9640001ED007B,
+    0x9640001F1007C,
+    0x9640001F5007D,
+    0x9640001F9007E,
+    0x9640001FD007F,
+    0x9640002110084,
+    0x9640002150085,
+    0x9640002210088,
+    0x964000271009C,
+    0x984000279009E,
+    0x1104900000002E,
+    0x1D9040000000060,
+    0x219040000000068,
+    0x26104000000000E,
+    0x21040003FD00FF,
+    0x2104300035000D,
+    0x21244C00450011,
+    0x23058C00490012,
+    0x21240C004D0013,
+    0x2A904000001F000,
+    0x2A904200000F001,
+    0x2104500000E001,
+    0x2104600000E002,
+    0x25060C0045E003,
+    0x2F104700000E047,
+    0x2F104700000E082,
+    0x2F104700000E086,
+    0x2F104700000E089,
+    0x2F104700000E088,
+    0x2F104700000E087,
+    0x2F104700000E08A,
+];
+
+// Rows name these from 1 on.
+static SECONDS: [u64; 12] = [
+    0, 0xE001, 0x1FFFE002, 0x1FE003, 0x12008, 0x1E008, 0x1FFFE010, 0xEC08, 0xCD08, 0x4, 0x5,
+    0x1FFFE000,
+];
+
+static THIRDS: [u64; 12] = [
+    0,
+    0x1,
+    0xFF,
+    0,
+    0,
+    0,
+    0,
+    0,
+    0,
+    0xFFFFFFFFFFFFFFFF,
+    0xFFFFFFF,
+    0xFFFFFFFFFFFFFFFF,
+];
+
+static FAMILY: [u8; 256] = [
     0x0E, 0x0E, 0x00, 0x00, 0x00, 0x00, 0x00, 0x00, 0x08, 0x00, 0x0E, 0x0E, 0x0E, 0x0D, 0x0E, 0x00,
     0x10, 0x11, 0x12, 0x13, 0x14, 0x00, 0x00, 0x00, 0x00, 0x00, 0x00, 0x00, 0x00, 0x00, 0x00, 0x00,
     0x00, 0x00, 0x00, 0x00, 0x00, 0x00, 0x00, 0x00, 0x00, 0x00, 0x00, 0x00, 0x00, 0x00, 0x2E, 0x2E,

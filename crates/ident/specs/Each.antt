@@ -1,10 +1,10 @@
 -- Tests and functions at each element of a list: what holds at one of them, and the loops that test or write them in order.
 -- Assumes nothing.
-use Rattle.std.specs.Prelude.{◌≡◌, refl, Bool, true, false, ◌&&◌, not, List, [], ◌∷◌, map, ℕ, zero, suc, ◌+◌, ◌≤◌, ◌<◌, T, length, drop, get_or, set}
-use Rattle.std.proofs.Common.{arith, length-drop, drop_of_length-le, drop-cons}
+use Rattle.std.specs.Prelude.{◌≡◌, refl, Bool, List, [], ◌∷◌, map, ℕ, zero, suc, ◌+◌, ◌≤◌, ◌<◌, T, length, drop, get_or, set}
+use Rattle.std.proofs.Common.{arith, length-drop, drop-cons}
 use Rattle.std.proofs.Math.Numerals.{add-one}
-use Rattle.std.proofs.lemmas.Bool.{not-true, not-false}
 use Rattle.std.proofs.lemmas.List.{length-map}
+use Rattle.std.specs.List.{list_all}
 use Rattle.octets.specs.Bytes.{every}
 use Rattle.octets.specs.Tests.{and_left, and_right, and_both}
 use Rattle.octets.specs.Filling.{Wrote, Filling, filling_set, filling_end}
@@ -20,28 +20,11 @@ unfolding every
 every_map f g m k [] t = tt
 every_map f g m k (p ∷ ps) t = and_both (g (m p)) _ (k p (and_left (f p) (every f ps) t)) (every_map f g m k ps (and_right (f p) (every f ps) t))
 
--- those from k on decide
-pub record Testing (f : ℕ → Bool) (ps : List ℕ) (k : ℕ) : Type 0 where
-  pub left : every f (drop k ps) ≡ every f ps
-
-pub testing_start : {f : ℕ → Bool} {ps : List ℕ} → Testing f ps 0
-testing_start = record { left = refl }
-
-module _ {f : ℕ → Bool} {ps : List ℕ} {k : ℕ} (h : Testing f ps k) where
-  pub testing_end : length ps ≤ k → true ≡ every f ps
-  unfolding every
-  testing_end z = rw (drop_of_length-le ps z) at h.left
-
-  module _ (z : k < length ps) {r : Bool} (e : r ≡ f (get_or ps k 0)) where
-    step : r && every f (drop (k + 1) ps) ≡ every f ps
-    unfolding every
-    step = rw (e, add-one k) (rw (drop-cons ps k 0 z) at h.left)
-
-    pub testing_not : not r ≡ true → false ≡ every f ps
-    testing_not n = rw (not-true r n) at step
-
-    pub testing_turn : not r ≡ false → Testing f ps (k + 1)
-    testing_turn n = record { left = rw (not-false r n) at step }
+-- the library's test of each element
+pub list_all-every : (f : ℕ → Bool) (ps : List ℕ) → list_all f ps ≡ every f ps
+unfolding every
+list_all-every f [] = refl
+list_all-every f (p ∷ ps) = rw (list_all-every f ps) refl
 
 -- one more element of a list that is written by a function of each
 pub map_turn : (m : ℕ → ℕ) (ps : List ℕ) {bs : List ℕ} {k v : ℕ} {first out : List ℕ} → k < length ps → v ≡ m (get_or ps k 0) → Filling bs (map m (drop k ps)) k first out → Filling bs (map m (drop (k + 1) ps)) (k + 1) first (set out k v)

@@ -1,9 +1,21 @@
 -- Generic addresses: where a register stands, and how wide it is accessed.
 -- Document 01, "The growing table" (GAS makers); ACPI 6.4, 5.2.3.2 (Generic Address Structure). `GenericAddress` of the crate.
 -- Assumes nothing.
-use Rattle.std.specs.Prelude.{cond, ℕ, ◌*◌, eqb}
+use Rattle.std.specs.Prelude.{cond, ℕ, ◌*◌, eqb, Result, Ok, Err}
+use Rattle.refusal.specs.declared.Refusal.{Refusal}
+use Rattle.refusal.specs.Number.{number}
 use Rattle.ident.specs.declared.GenericAddress.{GenericAddress}
-use Rattle.ident.specs.declared.Made.{Made}
+use Rattle.ident.specs.declared.AddressSpace.{AddressSpace}
+use Rattle.ident.specs.declared.AddressSpace.TheVariants as space
+
+-- a refusal's number, which is 0 where there is none, and the address
+pub record Made : Type 0 where
+  pub number : ℕ
+  pub address : GenericAddress
+
+abbrev pub space_id : AddressSpace → ℕ
+space_id space.SystemMemory = 0
+space_id space.SystemIo = 1
 
 -- 1, 2, 4, 8 bytes are access size 1 to 4; other widths have none
 unfoldable pub access_size : ℕ → ℕ
@@ -24,3 +36,8 @@ made space width at =
     cond (eqb (access_size width) 0)
     (record { number = 5; address = gas 0 0 0 })
     (record { number = 0; address = gas space width at })
+
+-- what the makers answer, in document 01's numbers
+unfoldable pub answered : Result GenericAddress Refusal → Made
+answered (Ok a) = record { number = 0; address = a }
+answered (Err r) = record { number = number r; address = gas 0 0 0 }

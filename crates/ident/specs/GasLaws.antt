@@ -1,21 +1,17 @@
 -- Laws of generic addresses: which widths have an access size, and the address or the refusal that is made of it.
 -- Assumes nothing.
-use Rattle.std.specs.Prelude.{◌≡◌, cond, ℕ, zero, suc, ◌*◌, ◌<◌, ◌≤◌, eqb}
-use Rattle.std.proofs.Math.Path.{refl}
-use Rattle.std.proofs.Common.{sym, ◌∙◌, arith, eq-eqb, ne_eqb, eqb→eq}
+use Rattle.std.specs.Prelude.{◌≡◌, refl, ℕ, ◌*◌, ◌<◌, ◌≤◌, eqb, Result, Ok, Err}
+use Rattle.std.proofs.Common.{ap, arith, ne_eqb, eqb→eq}
 use Rattle.octets.specs.Tests.{cond_case}
-use Rattle.ident.specs.Gas.{access_size, gas, made}
+use Rattle.refusal.specs.declared.Refusal.{Refusal}
+use Rattle.refusal.specs.Number.{number}
+use Rattle.refusal.specs.NumberLaws.{number-positive, number-injective}
+use Rattle.ident.specs.declared.GenericAddress.{GenericAddress}
+use Rattle.ident.specs.Gas.{Made, access_size, gas, made, answered}
 
-pub access_small : (w : ℕ) → w ≤ 2 → w ≡ access_size w
+pub access_none : (w : ℕ) → (w ≡ 1 → ⊥) → (w ≡ 2 → ⊥) → (w ≡ 4 → ⊥) → (w ≡ 8 → ⊥) → access_size w ≡ 0
 unfolding access_size
-access_small zero h = refl
-access_small (suc zero) h = refl
-access_small (suc (suc zero)) h = refl
-access_small (suc (suc (suc w))) h = absurd (omega arith)
-
-pub access_large : (w : ℕ) → 2 < w → access_size w ≡ cond (eqb w 4) 3 (cond (eqb w 8) 4 0)
-unfolding access_size
-access_large w h = rw (ne_eqb w 1 (λ e. omega arith), ne_eqb w 2 (λ e. omega arith)) refl
+access_none w a b c d = rw (ne_eqb w 1 a, ne_eqb w 2 b, ne_eqb w 4 c, ne_eqb w 8 d) refl
 
 pub access_width : (w : ℕ) → (access_size w ≡ 0 → ⊥) → w ≤ 8
 unfolding access_size
@@ -29,11 +25,20 @@ access_width w =
     P : ℕ → Type 0
     P x = (x ≡ 0 → ⊥) → w ≤ 8
 
-module _ (space width at : ℕ) {access : ℕ} (e : access ≡ access_size width) where
-  pub made_none : access ≡ 0 → record { number = 5; address = record { address_space_id = 0; register_bit_width = 0; register_bit_offset = 0; access_size = 0; address = 0 } } ≡ made space width at
-  unfolding made gas access_size
-  made_none z = rw (eq-eqb (access_size width) 0 (sym e ∙ z)) refl
+module _ (space width at : ℕ) where
+  pub made_refused : (r : Refusal) → number r ≡ 5 → access_size width ≡ 0 → answered (Err r) ≡ made space width at
+  unfolding answered made
+  made_refused r e z = rw (e, z) refl
 
-  pub made_some : (access ≡ 0 → ⊥) → record { number = 0; address = record { address_space_id = space; register_bit_width = 8 * width; register_bit_offset = 0; access_size = access; address = at } } ≡ made space width at
-  unfolding made gas
-  made_some n = rw (ne_eqb (access_size width) 0 (λ z. n (e ∙ z)), e) refl
+  pub made_some : {id access : ℕ} → id ≡ space → access ≡ access_size width → 0 < access
+      → answered (Ok (record { address_space_id = id; register_bit_width = 8 * width; register_bit_offset = 0; access_size = access; address = at })) ≡ made space width at
+  unfolding answered made gas
+  made_some i e p = rw (ne_eqb (access_size width) 0 (λ z. omega (arith, e, z)), i, e) refl
+
+-- no two answers are alike, so that the answer is determined
+pub answered_determined : (r s : Result GenericAddress Refusal) → answered r ≡ answered s → r ≡ s
+unfolding answered
+answered_determined (Ok a) (Ok b) e = ap (λ (x : GenericAddress). Ok x) (ap (λ (m : Made). m.address) e)
+answered_determined (Ok a) (Err s) e = absurd (omega (arith, number-positive s, ap (λ (m : Made). m.number) e))
+answered_determined (Err r) (Ok b) e = absurd (omega (arith, number-positive r, ap (λ (m : Made). m.number) e))
+answered_determined (Err r) (Err s) e = ap (λ (x : Refusal). Err x) (number-injective r s (ap (λ (m : Made). m.number) e))

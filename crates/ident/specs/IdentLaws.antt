@@ -1,15 +1,17 @@
 -- Laws of identifiers: their characters stand where the definitions say, and their values are small.
 -- Assumes nothing.
-use Rattle.std.specs.Prelude.{◌≡◌, refl, Bool, false, ◌&&◌, ◌||◌, List, ℕ, suc, ◌+◌, ◌-◌, ◌*◌, ◌/◌, ◌%◌, ◌^◌, ◌≤◌, ◌<◌, leb, eqb, length, take, drop, get_or}
+use Rattle.std.specs.Prelude.{◌≡◌, refl, Bool, true, false, ◌&&◌, ◌||◌, List, ℕ, suc, ◌+◌, ◌-◌, ◌/◌, ◌^◌, ◌≤◌, ◌<◌, leb, eqb, length, take, drop, get_or}
 use Rattle.std.proofs.Common.{sym, ◌∙◌, eq-eqb, ne_eqb, le-leb, leb→le, lt→ltb, get_or-take, get_or-drop, take_all}
 use native.Mathlib.Omega.{arith}
 use Rattle.std.proofs.Math.Nat.{div-div-eq-div-mul}
 use Rattle.std.proofs.lemmas.Bool.{lt-leb}
 use Rattle.std.proofs.Math.Dec.{T, eqb→eq}
 use Rattle.std.proofs.Math.ListN.{length-take, length-drop}
+use Rattle.std.proofs.Common.{w32}
+use Rattle.std.specs.Int as int
 use Rattle.octets.specs.Bytes.{every, is_byte, le, value}
-use Rattle.octets.specs.Tests.{and_left, and_right, or_case}
-use Rattle.ident.specs.Parts.{is_pair, pair_byte}
+use Rattle.octets.specs.Tests.{and_left, and_right, or_case, true_test}
+use Rattle.ident.specs.Parts.{is_hyphened, is_pair, pair_byte}
 use Rattle.ident.specs.Each.{every-at, every_map}
 use Rattle.ident.specs.Ident.{is_letter, is_hex, hex_digit, char, is_eisa, swap_bytes, eisa_id, uuid_places, is_uuid, uuid_bytes}
 
@@ -17,8 +19,8 @@ use Rattle.ident.specs.Ident.{is_letter, is_hex, hex_digit, char, is_eisa, swap_
 pub sized_not : {m n : ℕ} (a b : Bool) → (m ≡ n → ⊥) → false ≡ (eqb m n && a && b)
 sized_not {m} {n} a b h = rw (ne_eqb m n h) refl
 
-pub sized-is : {m n : ℕ} (a b : Bool) → m ≡ n → (a && b) ≡ (eqb m n && a && b)
-sized-is {m} {n} a b h = rw (eq-eqb m n h) refl
+pub sized_so : {m n : ℕ} → eqb m n ≡ true → m ≡ n
+sized_so {m} {n} e = eqb→eq m n (true_test _ e)
 
 -- ── Characters
 pub in_range_lem : (m b n : ℕ) → T (leb m b && leb b n) → (m ≤ b) × (b ≤ n)
@@ -95,20 +97,22 @@ module _ (t : List ℕ) (h : T (is_eisa t)) where
       rw (get_or-drop 3 t (i - 3) 0, p) at (every-at is_hex (drop 3 t) e (i - 3) (rw length-drop (omega arith)))
 
 -- the two parts as they are lent to the tests
-pub eisa-parts : (t : List ℕ) → length t ≡ 7 → every is_letter (take 3 t) && every is_hex (take 4 (drop 3 t)) ≡ is_eisa t
-unfolding is_eisa
-eisa-parts t n = rw (take_all 4 (drop 3 t) (rw length-drop (omega arith))) (sized-is _ _ n)
+module _ (t : List ℕ) (n : length t ≡ 7) {r : Bool} (e : r ≡ every is_letter (take 3 t)) where
+  pub eisa-not_letters : r ≡ false → false ≡ is_eisa t
+  unfolding is_eisa
+  eisa-not_letters f = rw (eq-eqb _ _ n, sym e ∙ f) refl
 
-pub swap_is : (n : ℕ) → n < 2 ^ 32 → n / 16777216 + 256 * (n / 65536 % 256) + 65536 * (n / 256 % 256) + 16777216 * (n % 256) ≡ swap_bytes n
+  pub eisa-digits : r ≡ true → every is_hex (take (length t - 3) (drop 3 t)) ≡ is_eisa t
+  unfolding is_eisa
+  eisa-digits f = rw (take_all (length t - 3) (drop 3 t) (rw length-drop (omega arith)), eq-eqb _ _ n, sym e ∙ f) refl
+
+-- the library's method does the same
+pub swap_is : (n : ℕ) → n < 2 ^ 32 → int.swap_bytes w32 n ≡ swap_bytes n
 unfolding swap_bytes le value
 swap_is n h =
     let e : n / 65536 ≡ n / 256 / 256 = sym (div-div-eq-div-mul n 256 256) in
     let f : n / 16777216 ≡ n / 256 / 256 / 256 = sym (div-div-eq-div-mul n 256 65536) ∙ sym (div-div-eq-div-mul (n / 256) 256 256) in
-    let z : n / 16777216 < 256 = omega arith in
-    rw (e, f) (swapped (n % 256) (n / 256 % 256) (n / 256 / 256 % 256) (n / 256 / 256 / 256) (rw f at z))
-  where
-    swapped : (a b c d : ℕ) → d < 256 → d + 256 * c + 65536 * b + 16777216 * a ≡ d % 256 + 256 * (c + 256 * (b + 256 * (a + 256 * 0)))
-    swapped a b c d h = omega arith
+    rw (e, f) (omega arith)
 
 pub eisa-small : (t : List ℕ) → eisa_id t < 2 ^ 32
 unfolding eisa_id swap_bytes le value
@@ -122,6 +126,16 @@ place-small k h = leb→le (get_or uuid_places k 0) 34 (every-at (λ p. leb p 34
 pub uuid-length : (t : List ℕ) → length (uuid_bytes t) ≡ 16
 unfolding uuid_bytes
 uuid-length t = refl
+
+-- the two tests behind that of the length
+module _ (t : List ℕ) (n : length t ≡ 36) {r : Bool} (e : r ≡ is_hyphened t) where
+  pub uuid-not_hyphened : r ≡ false → false ≡ is_uuid t
+  unfolding is_uuid
+  uuid-not_hyphened f = rw (eq-eqb _ _ n, sym e ∙ f) refl
+
+  pub uuid-pairs : r ≡ true → every (is_pair t) uuid_places ≡ is_uuid t
+  unfolding is_uuid
+  uuid-pairs f = rw (eq-eqb _ _ n, sym e ∙ f) refl
 
 module _ (t : List ℕ) (h : T (is_uuid t)) where
   pub uuid-text-length : length t ≡ 36

@@ -2,107 +2,79 @@
 // What is written is read back; what is longer than it has to be must be read as none.
 #![tactic(auto)]
 
-use ident::{EISAName, Made};
-use octets::Num;
+ghost use Rattle.std.specs.Prelude.{◌≤◌};
+
+use ident::GenericAddress;
+use refusal::Refusal;
+use shown::{front, hexadecimal, text};
 
 // Standard output.
 const STDOUT_FILENO: i32 = 1;
 
-fn text(s: &[u8]) {
-    io::write_all(STDOUT_FILENO, s);
-}
-
 // The first n bytes in hexadecimal, and the line's end.
 fn bytes(b: &[u8], n: usize) {
-    let mut i = 0;
-    while i < b.len() {
-        if i == n {
-            break;
-        }
-        text(b" ");
-        io::print_hex(STDOUT_FILENO, octets::wide(b[i]), 2);
-        i = i + 1;
-    }
+    hexadecimal(front(b, n));
     text(b"\n");
 }
 
 fn decimal(n: u64) {
     text(b" ");
-    io::print_decimal(STDOUT_FILENO, n);
+    shown::decimal(n);
 }
 
 // A number that was read, and where it ends.
-fn read(n: Num) {
+fn read(n: Option<(u64, usize)>) {
     match n {
-        Num::Some { value, next } => {
+        Some((value, next)) => {
             text(b"  read");
             decimal(value);
             text(b" to");
             decimal(next as u64);
             text(b"\n");
         }
-        Num::None => text(b"  none\n"),
+        None => text(b"  none\n"),
     }
 }
 
 // ── Integers and lengths
 
-fn int_into(x: u64, out: &mut [u8]) -> usize {
-    if out.len() < 16 {
-        return 0;
-    }
-    number::put_int(x, out)
-}
-
-fn int_line(x: u64, out: &mut [u8]) {
-    let n = int_into(x, out);
+fn integer(x: u64) {
+    let mut out = io::buffer();
+    let n = number::put_int(x, &mut out);
     text(b"integer");
     decimal(x);
     text(b":");
-    bytes(out, n);
-    read(number::int_at(out, 0));
+    bytes(&out, n);
+    read(number::int_at(&out, 0));
 }
 
-fn integer(x: u64) {
+fn pkg_length(n: u64, include_self: bool)
+    requires { n ≤ 268435455 }
+{
     let mut out = io::buffer();
-    int_line(x, &mut out);
-}
-
-fn length_into(n: u64, include_self: bool, out: &mut [u8]) -> usize {
-    if out.len() < 16 {
-        return 0;
-    }
-    if 268435455 < n {
-        return 0;
-    }
-    number::create_pkg_length(n, include_self, out)
-}
-
-fn length_line(n: u64, include_self: bool, out: &mut [u8]) {
-    let k = length_into(n, include_self, out);
+    let k = number::create_pkg_length(n, include_self, &mut out);
     text(b"length");
     decimal(n);
     text(b":");
-    bytes(out, k);
-    read(number::pkg_length_at(out, 0, include_self));
-}
-
-fn pkg_length(n: u64, include_self: bool) {
-    let mut out = io::buffer();
-    length_line(n, include_self, &mut out);
+    bytes(&out, k);
+    read(number::pkg_length_at(&out, 0, include_self));
 }
 
 fn integers() {
-    integer(0);
-    integer(1);
-    integer(2);
-    integer(255);
-    integer(256);
-    integer(65535);
-    integer(65536);
-    integer(4294967295);
-    integer(4294967296);
-    integer(18446744073709551615);
+    for x in [
+        0,
+        1,
+        2,
+        255,
+        256,
+        65535,
+        65536,
+        4294967295,
+        4294967296,
+        u64::MAX,
+    ] {
+        integer(x);
+    }
     text(b"not the shortest, or cut off\n");
     read(number::int_at(b"\x0A\x01", 0));
     read(number::int_at(b"\x0B\xFF\x00", 0));
@@ -134,28 +106,17 @@ fn pkg_lengths() {
 // ── Paths
 
 fn path_into(t: &[u8], out: &mut [u8]) -> usize {
-    if t.len() < 64 {
-        if path::is_path(t) {
-            if out.len() < 66 {
-                return 0;
-            }
-            return path::put_path(t, out);
-        }
+    if t.len() < 64 && 66 <= out.len() && path::is_path(t) {
+        return path::put_path(t, out);
     }
     0
 }
 
 // The text of the path in b, into `out`.
 fn path_text_into(b: &[u8], out: &mut [u8]) -> usize {
-    let n = path::path_at(b, 0);
-    match n {
-        Num::Some { value, next: _ } => {
-            if (out.len() as u64) < value {
-                return 0;
-            }
-            path::put_path_text(b, 0, out)
-        }
-        Num::None => 0,
+    match path::path_at(b, 0) {
+        Some((len, _)) if len <= out.len() as u64 => path::put_path_text(b, 0, out),
+        _ => 0,
     }
 }
 
@@ -165,19 +126,15 @@ fn path_text(b: &[u8], out: &mut [u8]) {
     bytes(out, n);
 }
 
-fn path_line(t: &[u8], out: &mut [u8]) {
-    let n = path_into(t, out);
-    text(t);
-    text(b":");
-    bytes(out, n);
-    read(path::path_at(out, 0));
-    let mut back = io::buffer();
-    path_text(out, &mut back);
-}
-
 fn a_path(t: &[u8]) {
     let mut out = io::buffer();
-    path_line(t, &mut out);
+    let n = path_into(t, &mut out);
+    text(t);
+    text(b":");
+    bytes(&out, n);
+    read(path::path_at(&out, 0));
+    let mut back = io::buffer();
+    path_text(&out, &mut back);
 }
 
 fn paths() {
@@ -203,42 +160,38 @@ fn paths() {
 
 fn eisa(t: &[u8]) {
     text(t);
-    let e = ident::eisa_name(t);
-    match e {
-        EISAName::Value { value } => {
+    match ident::eisa_name(t) {
+        Some(value) => {
             text(b" is ");
             integer(value);
         }
-        EISAName::Malformed => text(b" is malformed\n"),
+        None => text(b" is malformed\n"),
     }
 }
 
 fn uuid_into(t: &[u8], out: &mut [u8]) -> usize {
-    if out.len() < 16 {
-        return 0;
-    }
-    if ident::is_uuid(t) {
+    if 16 <= out.len() && ident::is_uuid(t) {
         return ident::put_uuid(t, out);
     }
     0
 }
 
-fn uuid_line(t: &[u8], out: &mut [u8]) {
-    let n = uuid_into(t, out);
-    text(t);
-    text(b":");
-    bytes(out, n);
-}
-
 fn uuid(t: &[u8]) {
     let mut out = io::buffer();
-    uuid_line(t, &mut out);
+    let n = uuid_into(t, &mut out);
+    text(t);
+    text(b":");
+    bytes(&out, n);
 }
 
-fn address(m: Made) {
-    let a = m.address;
+// A refused address has all fields 0.
+fn address(made: Result<GenericAddress, Refusal>) {
+    let (number, a) = match made {
+        Ok(a) => (0, a),
+        Err(refusal) => (refusal.number(), GenericAddress::default()),
+    };
     text(b"address");
-    decimal(m.number as u64);
+    decimal(u64::from(number));
     text(b":");
     decimal(a.address_space_id as u64);
     decimal(a.register_bit_width as u64);
@@ -268,13 +221,13 @@ fn identifiers() {
 // ── Descriptors
 
 fn fault(kind: u64, t: &[u8], a: u64, x: u64) -> u64 {
-    if descriptor::descriptor_in_range(kind, t, a, x) {
-        if descriptor::descriptor_spelled(kind, t) {
-            return 0;
-        }
-        return 6;
+    if !descriptor::descriptor_in_range(kind, t, a, x) {
+        5
+    } else if !descriptor::descriptor_spelled(kind, t) {
+        6
+    } else {
+        0
     }
-    5
 }
 
 fn descriptor_into(kind: u64, t: &[u8], a: u64, x: u64, out: &mut [u8]) -> usize {
@@ -289,8 +242,9 @@ fn descriptor_into(kind: u64, t: &[u8], a: u64, x: u64, out: &mut [u8]) -> usize
     0
 }
 
-fn descriptor_line(kind: u64, t: &[u8], a: u64, x: u64, out: &mut [u8]) {
-    let n = descriptor_into(kind, t, a, x, out);
+fn descriptor(kind: u64, t: &[u8], a: u64, x: u64) {
+    let mut out = io::buffer();
+    let n = descriptor_into(kind, t, a, x, &mut out);
     text(b"descriptor ");
     io::print_hex(STDOUT_FILENO, kind, 4);
     text(b" of");
@@ -298,12 +252,7 @@ fn descriptor_line(kind: u64, t: &[u8], a: u64, x: u64, out: &mut [u8]) {
     text(b", refusal");
     decimal(fault(kind, t, a, x));
     text(b":");
-    bytes(out, n);
-}
-
-fn descriptor(kind: u64, t: &[u8], a: u64, x: u64) {
-    let mut out = io::buffer();
-    descriptor_line(kind, t, a, x, &mut out);
+    bytes(&out, n);
 }
 
 fn descriptors() {
@@ -361,22 +310,11 @@ fn spaces() {
 
 // ── The end of a template
 
-fn end_into(out: &mut [u8]) -> usize {
-    if out.len() < 16 {
-        return 0;
-    }
-    descriptor::put_end_tag(out)
-}
-
-fn end_line(out: &mut [u8]) {
-    let n = end_into(out);
-    text(b"  end:");
-    bytes(out, n);
-}
-
 fn end_tag() {
     let mut out = io::buffer();
-    end_line(&mut out);
+    let n = descriptor::put_end_tag(&mut out);
+    text(b"  end:");
+    bytes(&out, n);
 }
 
 // ── The sum
@@ -388,15 +326,11 @@ fn sums() {
     let closed =
         b"DSDT\x2A\x00\x00\x00\x02\x59\x00\x00\x00\x00\x00\x00\x00\x00\x00\x00\x00\x00\x00\x00\x00\x00\x00\x00\x00\x00\x00\x00\x00\x00\x00\x00\x08FOO_\x01";
     text(b"checksum ");
-    io::print_hex(
-        STDOUT_FILENO,
-        octets::wide(octets::generate_checksum(open)),
-        2,
-    );
+    io::print_hex(STDOUT_FILENO, u64::from(octets::generate_checksum(open)), 2);
     text(b", sum");
-    decimal(octets::wide(octets::byte_sum(closed)));
+    decimal(u64::from(octets::byte_sum(closed)));
     text(b", sum of nothing");
-    decimal(octets::wide(octets::byte_sum(b"")));
+    decimal(u64::from(octets::byte_sum(b"")));
     text(b"\n");
     if octets::begins_at(closed, 36, b"\x08FOO_") {
         text(b"FOO_ is there\n");

@@ -1,11 +1,10 @@
 -- What the C face hands over: the answers of the calls below, in structs that C has. Document 01, "The growing table" (four entry points).
 -- Assumes nothing.
 use Rattle.std.specs.Prelude.{◌≡◌, List, ℕ}
-use Rattle.checker.specs.declared.Verdict.{Verdict}
+use Rattle.checker.specs.Refusal.{Verdict}
 use Rattle.sdt.specs.declared.Sdt.{Sdt}
-use Rattle.sdt.specs.declared.Edit.{Edit}
-use Rattle.encode.specs.declared.Answer.{Answer}
-use Rattle.encode.specs.Encode.{Outcome}
+use Rattle.sdt.specs.Edit.{Edit}
+use Rattle.encode.specs.Encode.{Answer, Outcome}
 use Rattle.monitor.specs.declared.AcpiAnswer.{AcpiAnswer}
 use Rattle.monitor.specs.declared.AcpiEdit.{AcpiEdit}
 

@@ -1,11 +1,12 @@
 -- An index that is handed over is at most the record count, so it fits the C face's 32 bits; and how the calls below meet the face.
 -- Assumes nothing.
-use Rattle.std.specs.Prelude.{◌≡◌, refl, Bool, true, false, ◌||◌, not, cond, List, [], ◌∷◌, ◌++◌, ℕ, suc, ◌+◌, ◌-◌, ◌/◌, ◌≤◌, ◌<◌, eqb, ltb, length, drop}
+use Rattle.std.specs.Prelude.{◌≡◌, refl, Bool, true, false, ◌||◌, not, cond, List, [], ◌∷◌, ◌++◌, ℕ, suc, ◌+◌, ◌-◌, ◌/◌, ◌≤◌, ◌<◌, eqb, ltb, length, drop, Result}
 use Rattle.std.proofs.Common.{◌∙◌, ap, sym, arith, length-take, eqb-true}
 use Rattle.std.proofs.Math.Option.{Option, none, some}
 use Rattle.octets.specs.Bytes.{le_at}
 use Rattle.octets.specs.Sum.{byte_sum}
 use Rattle.octets.specs.Tests.{cond_case}
+use Rattle.refusal.specs.declared.Fault.{Fault}
 use Rattle.grammar.specs.Forest.{Forest}
 use Rattle.tree.specs.Normal.{norm}
 use Rattle.term.specs.declared.Record.{Record}
@@ -13,21 +14,18 @@ use Rattle.term.specs.File.{record_count, identity, layout_of}
 use Rattle.term.specs.Record.{records_from}
 use Rattle.term.specs.RecordLaws.{records-length}
 use Rattle.arity.specs.Arity.{Arity, arities_fit}
-use Rattle.checker.specs.declared.Verdict.{Verdict}
-use Rattle.checker.specs.Refusal.{verdict, Owed, next, later, kids_of, fault_of, scan, record_section, arity_section, pool_section, refusal_of}
+use Rattle.checker.specs.Refusal.{Verdict, verdict, Owed, next, later, kids_of, fault_of, scan, record_section, arity_section, pool_section, refusal_of}
 use Rattle.normal.specs.File.{file_of}
 use Rattle.checker.specs.Described.{forest_of}
-use Rattle.sdt.specs.declared.Edit.{Edit}
 use Rattle.sdt.specs.Edit as sdt
-use Rattle.sdt.specs.Edit.{Left}
+use Rattle.sdt.specs.Edit.{Edit, Left}
 use Rattle.sdt.specs.EditLaws.{left_determined}
-use Rattle.encode.specs.declared.Answer.{Answer}
-use Rattle.encode.specs.Encode.{table_of, late_number, Outcome, refused_by, handed, described, outcome_of, encode_of, Answered}
+use Rattle.encode.specs.Encode.{table_of, late_number, Answer, answer_of, Outcome, refused_by, handed, described, outcome_of, encode_of, Answered}
 use Rattle.encode.specs.AcceptLaws.{layout-sized}
 use Rattle.whole.specs.Whole.{list_of, normalise_of, identity_of, tree_in, read_in, read_of}
 use Rattle.monitor.specs.declared.AcpiAnswer.{AcpiAnswer}
 use Rattle.monitor.specs.declared.AcpiEdit.{AcpiEdit}
-use Rattle.monitor.specs.Face.{face_of, verdict_of, Faced, edit_of}
+use Rattle.monitor.specs.Face.{verdict_of, Faced, edit_of}
 
 -- ── Two answers to one call are equal
 -- number, index, length and every byte of the output are determined
@@ -122,18 +120,8 @@ read-narrow a t out =
     (either-narrow (ltb 268435455 (length t)) (plain-narrow 12 out)
     (either-narrow (not (eqb (byte_sum t) 0)) (plain-narrow 21 out) (in_narrow (list_of a) t (tree_in (list_of a) t) out))))))
 
-pub answered-narrow : {r : Answer} {out : List ℕ} {o : Outcome} → Narrow o → Answered r out o → r.index < 4294967296
+pub answered-narrow : {r : Result ℕ Fault} {out : List ℕ} {o : Outcome} → Narrow o → Answered r out o → (answer_of r).index < 4294967296
 answered-narrow n h = rw h.answer (omega (arith, n.narrow))
 
-pub verdict-narrow : (f : List ℕ) {v : Verdict} → v ≡ refusal_of f → v.index < 4294967296
+pub verdict-narrow : (f : List ℕ) {a : Answer} → a ≡ verdict_of (refusal_of f) → a.index < 4294967296
 verdict-narrow f e = rw e (omega (arith, refusal_index f))
-
--- ── From the calls below to the face
-pub verdict_faced : {v w : Verdict} {r : AcpiAnswer} → v ≡ w → r ≡ face_of (verdict_of v) → r ≡ face_of (verdict_of w)
-verdict_faced e h = h ∙ ap (λ u. face_of (verdict_of u)) e
-
-pub left_faced : {e : Edit} {out : List ℕ} {o : sdt.Outcome} {r : AcpiEdit} → Left e out o → edit_of r ≡ e → Left (edit_of r) out o
-left_faced h e = rw e h
-
-pub answered_faced : {r : Answer} {out : List ℕ} {o : Outcome} {s : AcpiAnswer} → Answered r out o → s ≡ face_of r → Faced s out o
-answered_faced h e = record { answer = e ∙ ap (λ a. face_of a) h.answer; output = h.output }

@@ -5,10 +5,13 @@
 
 ghost use Rattle.std.specs.Prelude.{◌≡◌, ◌<◌};
 ghost use Rattle.checker.specs.Refusal.{refusal_of};
-ghost use Rattle.sdt.specs.Edit.{new_of, append_of, write_of, Left};
-ghost use Rattle.encode.specs.Encode.{encode_of};
+ghost use Rattle.sdt.specs.Edit.{new_of, append_of, write_of, edit_said, Left};
+ghost use Rattle.encode.specs.Encode.{answer_of, encode_of};
 ghost use Rattle.whole.specs.Whole.{normalise_of, read_of};
 ghost use Rattle.monitor.specs.Face.{Faced, face_of, verdict_of, edit_of, record_of};
+
+use refusal::{Fault, Refusal};
+use sdt::Sdt;
 
 // A refusal's number and the record at which it was found; or 0, and how many bytes were written.
 #[repr(C)]
@@ -28,24 +31,37 @@ pub struct AcpiEdit {
     pub checksum: u8,
 }
 
-fn faced(a: encode::Answer) -> AcpiAnswer
-    requires { a.index < 4294967296 }
-    ensures { result ≡ face_of a }
+// What a call answered, as C has it.
+fn faced(outcome: Result<usize, Fault>) -> AcpiAnswer
+    requires { (answer_of outcome).index < 4294967296 }
+    ensures { result ≡ face_of (answer_of outcome) }
 {
-    AcpiAnswer {
-        number: a.number,
-        index: a.index as u32,
-        length: a.length,
+    match outcome {
+        Ok(size) => AcpiAnswer {
+            number: 0,
+            index: 0,
+            length: size as u64,
+        },
+        Err(fault) => AcpiAnswer {
+            number: fault.refusal.number(),
+            index: fault.index as u32,
+            length: 0,
+        },
     }
 }
 
-fn edited(e: sdt::Edit) -> AcpiEdit
-    ensures { edit_of result ≡ e }
+// What an edit left of the record t.
+fn edited(t: Sdt, edit: Result<Sdt, Refusal>) -> AcpiEdit
+    ensures { edit_of result ≡ edit_said t edit }
 {
+    let (number, left) = match edit {
+        Ok(renewed) => (0, renewed),
+        Err(refusal) => (refusal.number(), t),
+    };
     AcpiEdit {
-        number: e.number,
-        length: e.table.length,
-        checksum: e.table.checksum,
+        number,
+        length: left.length,
+        checksum: left.checksum,
     }
 }
 
@@ -73,12 +89,7 @@ pub fn acpi_normalise(file: &[u8], out: &mut [u8]) -> AcpiAnswer
 pub fn acpi_check(file: &[u8]) -> AcpiAnswer
     ensures { result ≡ face_of (verdict_of (refusal_of file.now)) }
 {
-    let v = checker::check(file);
-    faced(encode::Answer {
-        number: v.number,
-        index: v.index,
-        length: 0,
-    })
+    faced(checker::check(file).map(|()| 0))
 }
 
 // ── The growing table
@@ -86,18 +97,18 @@ pub fn acpi_check(file: &[u8]) -> AcpiAnswer
 pub fn acpi_new(identity: &[u8; 31], length: u32, buffer: &mut [u8]) -> AcpiEdit
     ensures { Left (edit_of result) buffer.new (new_of identity.now length (record_of 0 0) buffer.old) }
 {
-    let t = sdt::Sdt {
+    let none = Sdt {
         length: 0,
         checksum: 0,
     };
-    edited(sdt::new_at(t, identity, length, buffer))
+    edited(none, Sdt::new_at(identity, length, buffer))
 }
 
 pub fn acpi_append(buffer: &mut [u8], length: u32, checksum: u8, piece: &[u8]) -> AcpiEdit
     ensures { Left (edit_of result) buffer.new (append_of (record_of length checksum) buffer.old piece.now) }
 {
-    let t = sdt::Sdt { length, checksum };
-    edited(sdt::append_at(t, buffer, piece))
+    let t = Sdt { length, checksum };
+    edited(t, t.append_at(buffer, piece))
 }
 
 pub fn acpi_write(
@@ -109,6 +120,6 @@ pub fn acpi_write(
 ) -> AcpiEdit
     ensures { Left (edit_of result) buffer.new (write_of (record_of length checksum) buffer.old offset piece.now) }
 {
-    let t = sdt::Sdt { length, checksum };
-    edited(sdt::write_at(t, buffer, offset, piece))
+    let t = Sdt { length, checksum };
+    edited(t, t.write_at(buffer, offset, piece))
 }

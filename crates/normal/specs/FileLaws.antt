@@ -13,8 +13,7 @@ use Rattle.grammar.specs.declared.Place.TheVariants.{InList}
 use Rattle.grammar.specs.Forest.{Forest, flatten}
 use Rattle.grammar.specs.ForestLaws.{build-flatten}
 use Rattle.tree.specs.Fits.{Fits}
-use Rattle.term.specs.declared.Layout.{Layout}
-use Rattle.term.specs.File.{magic, identity, touching, laid_out, few, layout_of}
+use Rattle.term.specs.File.{magic, identity, touching, laid_out, few, Layout, layout_of}
 use Rattle.term.specs.Record.{records_from}
 use Rattle.arity.specs.Arity.{Arity, arities_of, ascend, arities_fit, args_in, args_of}
 use Rattle.checker.specs.Refusal.{verdict, record_section, arity_section, pool_section, refusal_of}

@@ -5,7 +5,6 @@ use Rattle.std.proofs.Math.Path.{refl, sym}
 use Rattle.std.proofs.Common.{ap, ◌∙◌, subst, arith, length-append}
 use Rattle.std.proofs.Math.Bool.{true, false}
 use Rattle.std.proofs.lemmas.List.{length-map}
-use borrow.Author.Tests.{ne_eqb}
 use Rattle.ident.specs.Ident.{eisa_id, uuid_bytes}
 use Rattle.ident.specs.IdentLaws.{uuid-length}
 use Rattle.descriptor.specs.Template.{end_tag}
@@ -24,24 +23,6 @@ use Rattle.normalise.specs.Flat.{integer_records, buffer_records, becomes, child
 -- ── The text of what a record becomes, by the length of its own text and the size of its children
 unfoldable pub texts_in : ℕ → ℕ → ℕ → ℕ
 texts_in k n m = cond (eqb k 0xE001) 0 (cond (eqb k 0xE002) 16 (cond (eqb k 0xE003) (m + 2) n))
-
--- from the tests of its kind
-module _ (k n m : ℕ) where
-  pub texts-eisa : k ≡ 0xE001 → 0 ≡ texts_in k n m
-  unfolding texts_in
-  texts-eisa e = rw e refl
-
-  pub texts-uuid : k ≡ 0xE002 → 16 ≡ texts_in k n m
-  unfolding texts_in
-  texts-uuid e = rw e refl
-
-  pub texts_template : k ≡ 0xE003 → m + 2 ≡ texts_in k n m
-  unfolding texts_in
-  texts_template e = rw e refl
-
-  pub texts-other : (k ≡ 0xE001 → ⊥) → (k ≡ 0xE002 → ⊥) → (k ≡ 0xE003 → ⊥) → n ≡ texts_in k n m
-  unfolding texts_in
-  texts-other x y z = rw (ne_eqb k 0xE001 x, ne_eqb k 0xE002 y, ne_eqb k 0xE003 z) refl
 
 becomes-texts : (t : Term) (bs : List ℕ) → length (term_texts (becomes t bs)) ≡ texts_in t.kind (length t.fields.text) (length bs)
 unfolding becomes texts_in term_texts flatten
@@ -178,9 +159,6 @@ module _ {records pool : List ℕ} {i texts next : ℕ} (h : i < length records 
 -- ── The pass at work: so much text is counted, and the records from i on make up the whole
 pub record Passing (records pool : List ℕ) (i total : ℕ) : Type 0 where
   pub sum : total + texts_from records pool i ≡ texts_from records pool 0
-
-pub passing_start : (records pool : List ℕ) → Passing records pool 0 0
-passing_start records pool = record { sum = omega arith }
 
 module _ {records pool : List ℕ} {i total : ℕ} (p : Passing records pool i total) where
   pub passing_turn : {texts next : ℕ} → i < length records / 24 → Stepped records pool i texts next → Passing records pool next (total + texts)

@@ -1,12 +1,10 @@
 -- How the code meets the records and texts of a normal form: what one record becomes, written; and the two passes along a file's records.
 -- Assumes nothing.
 use Rattle.std.specs.Prelude.{◌≡◌, Bool, ◌||◌, List, [], ◌∷◌, ◌++◌, ℕ, ◌+◌, ◌/◌, ◌<◌, ◌≤◌, T, eqb, length}
-use Rattle.std.proofs.Math.Path.{refl, sym, subst}
-use Rattle.std.proofs.Common.{ap, ◌∙◌, append_assoc, append-nil, arith, length-append}
+use Rattle.std.proofs.Common.{refl, sym, subst, ne_eqb, ap, append_assoc, append-nil, arith, length-append}
 use Rattle.std.proofs.Math.Bool.{true, false, cond}
 use mathlib.Core.List as lists
-use borrow.Author.Tests.{ne_eqb}
-use Rattle.octets.specs.Filling.{Wrote, Filling, filling_start, filling_fits, filling_lent, filling_end, Writing, writing_start, lent, returned}
+use Rattle.octets.specs.Filling.{Wrote, Filling, filling_fits, filling_lent, filling_end, Writing, writing_start, lent, returned}
 use Rattle.ident.specs.Ident.{eisa_id, uuid_bytes}
 use Rattle.descriptor.specs.Template.{end_tag}
 use Rattle.grammar.specs.declared.Text.TheVariants.{EisaText, UuidText}
@@ -21,9 +19,8 @@ use Rattle.normal.specs.File.{start_of, records_bytes, term_texts}
 use Rattle.normal.specs.SectionLaws.{texts-append}
 use Rattle.repack.specs.Repack.{packed}
 use Rattle.repack.specs.PackLaws.{record-packed}
-use Rattle.encode.specs.Walk.{is_buffer}
 use Rattle.encode.specs.WalkLaws.{Small}
-use Rattle.encode.specs.Sound.{FineRecord, Sound}
+use Rattle.encode.specs.Sound.{FineRecord, row_known, Sound}
 use Rattle.normalise.specs.Flat.{integer_records, buffer_records, becomes}
 use Rattle.normalise.specs.FlatLaws.{kids_at, becomes_at, normal_from, texts_from, texts-most, normal-none, texts-none, Stepped, step-normal, step-texts}
 use Rattle.normalise.specs.Pack.{integer_bytes, buffer_bytes, step_bytes, step_at, kids_from, Named, Slender}
@@ -31,16 +28,6 @@ use Rattle.normalise.specs.Pack.{integer_bytes, buffer_bytes, step_bytes, step_a
 -- room for bytes is room for them by another name
 pub fits_as : {bs cs : List ℕ} {n : ℕ} → bs ≡ cs → length bs ≤ n → length cs ≤ n
 fits_as {bs} {cs} {n} e h = subst (λ (l : List ℕ). length l ≤ n) e h
-
--- ── Where a text starts, from the test of its length
-module _ (n at : ℕ) where
-  pub start_empty : n ≡ 0 → 0 ≡ start_of n at
-  unfolding start_of
-  start_empty e = rw e refl
-
-  pub start-there : (n ≡ 0 → ⊥) → at ≡ start_of n at
-  unfolding start_of
-  start-there z = rw (ne_eqb n 0 z) refl
 
 -- ── The records of what a record becomes
 pub records-append : (at : ℕ) (ts us : List Term) → records_bytes at (ts ++ us) ≡ records_bytes at ts ++ records_bytes (at + length (term_texts ts)) us
@@ -100,21 +87,6 @@ module _ (pool : List ℕ) (r : Record) (bs : List ℕ) (at : ℕ) where
       by false false true = buffer-records (bs ++ end_tag) at
       by false false false = own-records own at
 
--- from the tests of its kind
-module _ (r : Record) (t : List ℕ) (n start : ℕ) where
-  pub step-eisa : r.kind ≡ 0xE001 → {x : ℕ} → x ≡ eisa_id t → step_bytes r t n start ≡ integer_bytes x
-  unfolding step_bytes
-  step-eisa e f = rw (e, f) refl
-
-  module _ (x : r.kind ≡ 0xE001 → ⊥) {b : Bool} (e : b ≡ is_buffer r.kind) where
-    pub step-buffer : b ≡ true → step_bytes r t n start ≡ buffer_bytes n start
-    unfolding step_bytes
-    step-buffer h = rw (ne_eqb r.kind 0xE001 x, sym e ∙ h) refl
-
-    pub step-own : b ≡ false → step_bytes r t n start ≡ packed (record { kind = r.kind; a = r.a; kids = r.kids; x = r.x; start = start; len = n })
-    unfolding step_bytes
-    step-own h = rw (ne_eqb r.kind 0xE001 x, sym e ∙ h) refl
-
 pub buffer-start : (n start : ℕ) (first : List ℕ) → length (buffer_bytes n start) ≤ length first
     → Writing (buffer_bytes n start) (packed (record { kind = 0x11; a = 0; kids = 1; x = 0; start = start; len = n }) ∷ integer_bytes n ∷ []) 0 first first
 unfolding buffer_bytes lists.flatten
@@ -132,7 +104,7 @@ uuid-text = refl
 module _ {records pool : List ℕ} (s : Sound records pool) {i : ℕ} (h : i < length records / 24) {r : Record} (e : r ≡ record_at records i) {t : List ℕ} (g : t ≡ text_at pool r.start r.len) where
   spelled-here : T (spelled (row_in (row_of r.kind)) t)
   unfolding row_in
-  spelled-here = let f = subst (FineRecord pool) (sym e) (s.each i h) in rw (g, f.known) f.fine.2
+  spelled-here = let f = subst (FineRecord pool) (sym e) (s.each i h) in rw (g, row_known f) f.fine.2
 
   pub named_here : Named r.kind t
   unfolding spelled text_spelled
@@ -149,10 +121,6 @@ module _ {records pool : List ℕ} (s : Sound records pool) {i : ℕ} (h : i < l
 pub record Recording (records pool : List ℕ) (first start i at : ℕ) (out₀ out : List ℕ) : Type 0 where
   pub fill : Filling (records_bytes first (normal_from records pool 0)) (records_bytes start (normal_from records pool i)) at out₀ out
   pub sum : start + texts_from records pool i ≡ first + texts_from records pool 0
-
-pub recording_start : (records pool : List ℕ) (first : ℕ) (out : List ℕ) → length (records_bytes first (normal_from records pool 0)) ≤ length out
-    → Recording records pool first first 0 0 out out
-recording_start records pool first out room = record { fill = filling_start out refl room; sum = refl }
 
 module _ {records pool : List ℕ} {first start i at : ℕ} {out₀ out : List ℕ} (p : Recording records pool first start i at out₀ out) where
   pub recording_end : length records / 24 ≤ i → Wrote (records_bytes first (normal_from records pool 0)) out₀ out at
@@ -208,9 +176,6 @@ template_start records pool n i first room = writing_start first (record { is = 
 -- ── The texts written
 pub record Texting (records pool : List ℕ) (i at : ℕ) (out₀ out : List ℕ) : Type 0 where
   pub fill : Filling (term_texts (normal_from records pool 0)) (term_texts (normal_from records pool i)) at out₀ out
-
-pub texting_start : (records pool out : List ℕ) → texts_from records pool 0 ≤ length out → Texting records pool 0 0 out out
-texting_start records pool out room = record { fill = filling_start out refl room }
 
 module _ {records pool : List ℕ} {i at : ℕ} {out₀ out : List ℕ} (p : Texting records pool i at out₀ out) where
   pub texting_end : length records / 24 ≤ i → Wrote (term_texts (normal_from records pool 0)) out₀ out at

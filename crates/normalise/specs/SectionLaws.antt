@@ -1,12 +1,13 @@
 -- How the call meets its contract: the normal-form file in a row, what the figures say of it, and the sections of an accepted file.
 -- Assumes nothing.
-use Rattle.std.specs.Prelude.{◌≡◌, refl, Bool, ℕ, zero, suc, ◌+◌, ◌*◌, ◌-◌, ◌/◌, ◌<◌, ◌≤◌, length, take, drop}
+use Rattle.std.specs.Prelude.{◌≡◌, refl, Bool, ℕ, zero, suc, ◌+◌, ◌*◌, ◌-◌, ◌/◌, ◌<◌, ◌≤◌, length, drop, Result, Err}
 use Rattle.std.proofs.Common.{sym, ap, ◌∙◌, length-append, length-take}
 use mathlib.Core.List.{List, [], ◌∷◌, ◌++◌, append_assoc, append-nil}
 use mathlib.Core.List as lists
 use native.Mathlib.Omega.{arith}
 use Rattle.octets.specs.Filling.{Parts, Writing, writing_start}
-use Rattle.octets.specs.Reading.{Digits}
+use Rattle.refusal.specs.declared.Fault.{Fault}
+use Rattle.refusal.specs.Number.{number}
 use Rattle.grammar.specs.declared.Place.TheVariants.{InList}
 use Rattle.grammar.specs.Kinds.{row_of, row_in}
 use Rattle.grammar.specs.Forest.{Forest, nil, node, count, depth, Term, flatten}
@@ -14,22 +15,22 @@ use Rattle.grammar.specs.ForestLaws.{flatten-build}
 use Rattle.tree.specs.Bytes.{term_bytes, bytes}
 use Rattle.tree.specs.Normal.{norm}
 use Rattle.tree.proofs.NormalLaws.{norm-depth}
-use Rattle.term.specs.declared.Layout.{Layout}
-use Rattle.term.specs.File.{identity, layout_of}
+use Rattle.term.specs.declared.File.{File}
+use Rattle.term.specs.File.{identity, layout_of, record_section, arity_section, pool_section}
+use Rattle.term.specs.LaidOut as laid
 use Rattle.arity.specs.Arity.{Arity, arities_of, args_of}
-use Rattle.checker.specs.declared.Verdict.{Verdict}
-use Rattle.checker.specs.Refusal.{part, refusal_of, record_section, arity_section, pool_section}
+use Rattle.checker.specs.Refusal.{verdict, refusal_of}
 use Rattle.checker.specs.Accepted.{accepted-forest}
 use Rattle.checker.specs.Described.{forest_of}
 use Rattle.normal.specs.File.{header_bytes, records_bytes, term_texts, arities_bytes, arity_texts, file_of}
 use Rattle.normal.specs.FileLaws.{file-length}
-use Rattle.encode.specs.declared.Answer.{Answer}
 use Rattle.encode.specs.Encode.{described, Answered}
 use Rattle.encode.specs.Walk.{Part, below, walk-forest, walk_all}
 use Rattle.encode.specs.WalkLaws.{terms_from, terms-more, Measured}
 use Rattle.encode.specs.Answer.{whole, figures_number, figures_within, walked, outcome_refused}
 use Rattle.encode.specs.LateLaws.{body-most, kids-most, terms-count, outcome_accepted}
-use Rattle.encode.specs.AcceptLaws.{pool-ends, accepted-sound, identity-length}
+use Rattle.encode.specs.AcceptLaws.{passed, identity-length}
+use Rattle.encode.specs.Sound.{Sound}
 use Rattle.whole.specs.Whole.{list_of, normalise_of}
 use Rattle.whole.specs.ListLaws.{texts-short, arities_callable, arities-count, layout-room}
 use Rattle.whole.specs.WholeLaws.{early_facts}
@@ -58,8 +59,8 @@ module _ {id records arities pool : List ℕ} {n names texts : ℕ} {first : Lis
 pub names_most : {id records arities pool : List ℕ} → Sections id records arities pool → {names : ℕ} → names ≡ length (arity_texts (arities_of arities pool)) → names ≤ 5222400
 names_most {id} {records} {arities} {pool} s e = omega (arith, texts-short (arities_of arities pool) (arities_callable arities pool s.fit), arities-count arities pool, s.few)
 
-pub all_most : {id records arities pool : List ℕ} → Sections id records arities pool → {texts : ℕ} → texts ≡ texts_from records pool 0 → texts ≤ 281474983002112
-all_most {id} {records} {arities} {pool} s e = omega (arith, texts-most records pool s.sound.small 0)
+pub all_most : {records pool : List ℕ} → Sound records pool → {texts : ℕ} → texts ≡ texts_from records pool 0 → texts ≤ 281474983002112
+all_most {records} {pool} s e = omega (arith, texts-most records pool s.small 0)
 
 -- ── No term's children have more bytes than all terms
 unfoldable EachSmall : ℕ → List Term → Type 0
@@ -111,10 +112,10 @@ module _ {id records arities pool : List ℕ} (s : Sections id records arities p
           let t = ap (λ (ts : List Term). length (term_texts ts)) normal-tree in
           omega (arith, file-length id (arities_of arities pool) (norm tree) s.own, normal-count, arities-count arities pool, t)
 
-      pub measured : {k : ℕ} → k ≡ figures_number n deep size → k ≡ 0 → (out : List ℕ) → 60 + 24 * n + 8 * (length arities / 8) + (names + texts) ≤ length out
+      pub measured : 0 ≡ figures_number n deep size → (out : List ℕ) → 60 + 24 * n + 8 * (length arities / 8) + (names + texts) ≤ length out
           → Measures id records arities pool n names texts out
-      measured e z out h =
-          let w = figures_within n deep size e z in
+      measured z out h =
+          let w = figures_within n deep size z in
           record {
             sections = s;
             slender = slender-tree (omega (arith, w.1, m.counted));
@@ -131,15 +132,14 @@ tree_is : (f : List ℕ) → tree_in (record_section f) (pool_section f) ≡ des
 unfolding tree_in forest_of terms_from
 tree_is f = refl
 
-accepted-sections : (f : List ℕ) → (refusal_of f).number ≡ 0 → {k : ℕ} → Digits f 20 4 k → Sections (identity f) (record_section f) (arity_section f) (pool_section f)
+accepted-sections : (f : List ℕ) → (refusal_of f).number ≡ 0 → Sections (identity f) (record_section f) (arity_section f) (pool_section f)
 unfolding described forest_of terms_from
-accepted-sections f z d =
+accepted-sections f z =
     let (g, e, h) = accepted-forest f z in
     let (l, a) = early_facts f z in
     let t : tree_in (record_section f) (pool_section f) ≡ g = rw (tree_is f, e) refl in
     record {
       own = identity-length f z;
-      sound = accepted-sound f z d;
       terms = rw t (flatten-build _ g e);
       levels = rw t (norm-depth (args_of (arity_section f) (pool_section f)) (λ _. InList) 64 0 g h);
       fit = a;
@@ -151,21 +151,15 @@ normalise_accepted : (f out : List ℕ) → (refusal_of f).number ≡ 0
 unfolding normalise_of list_of
 normalise_accepted f out z = rw (tree_is f) (outcome_accepted (λ g. file_of (identity f) (list_of f) (norm g)) f out z)
 
-pub normalise_refused : (f out : List ℕ) {v : Verdict} → v ≡ refusal_of f → (v.number ≡ 0 → ⊥) → Answered (record { number = v.number; index = v.index; length = 0 }) out (normalise_of f out)
+pub normalise_refused : (f out : List ℕ) {v : Fault} → verdict (number v.refusal) v.index ≡ refusal_of f → Answered (Err v) out (normalise_of f out)
 unfolding normalise_of
 normalise_refused f out = outcome_refused (λ g. file_of (identity f) (list_of f) (norm g)) f out
 
--- the sections that the code cuts out of it
-module _ (f : List ℕ) {v : Verdict} (ev : v ≡ refusal_of f) (zv : v.number ≡ 0) {l : Layout} (e : l ≡ layout_of f) {k : ℕ} (d : Digits f 20 4 k) where
-  passed : (refusal_of f).number ≡ 0
-  passed = rw ev at zv
+-- of its sections, taken apart
+module _ (f : List ℕ) (v : verdict 0 0 ≡ refusal_of f) {s : File} (e : laid.Sections f s) where
+  pub own-sections : Sections s.identity.now s.records.now s.arities.now s.pool.now
+  own-sections = rw (e.identity, e.records, e.arities, e.pool) (accepted-sections f (passed f v))
 
-  pub cut-sections : Sections (take 31 (drop 28 f)) (part f 60 l.arities) (part f l.arities l.pool) (part f l.pool (l.pool + k))
-  unfolding identity
-  cut-sections = rw (e, pool-ends f passed d) (accepted-sections f passed d)
-
-  pub cut_normalised : (first : List ℕ) {r : Answer} {out : List ℕ}
-      → Answered r out (walked (normal_file (take 31 (drop 28 f)) (part f 60 l.arities) (part f l.arities l.pool) (part f l.pool (l.pool + k))) (whole (part f 60 l.arities) (part f l.pool (l.pool + k))) first)
-      → Answered r out (normalise_of f first)
-  unfolding identity
-  cut_normalised first h = rw (normalise_accepted f first passed) (rw (e, pool-ends f passed d) at h)
+  pub own-normalised : (first : List ℕ) {r : Result ℕ Fault} {out : List ℕ}
+      → Answered r out (walked (normal_file s.identity.now s.records.now s.arities.now s.pool.now) (whole s.records.now s.pool.now) first) → Answered r out (normalise_of f first)
+  own-normalised first h = rw (normalise_accepted f first (passed f v)) (rw (e.identity, e.records, e.arities, e.pool) at h)

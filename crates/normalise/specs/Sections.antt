@@ -7,7 +7,6 @@ use Rattle.arity.specs.Arity.{arities_of, arities_fit}
 use Rattle.normal.specs.File.{arity_texts, file_of}
 use Rattle.encode.specs.Encode.{described}
 use Rattle.encode.specs.WalkLaws.{terms_from}
-use Rattle.encode.specs.Sound.{Sound}
 use Rattle.normalise.specs.FlatLaws.{normal_from, texts_from}
 use Rattle.normalise.specs.Pack.{Slender}
 
@@ -19,7 +18,6 @@ normal_file id records arities pool = file_of id (arities_of arities pool) (norm
 
 pub record Sections (id records arities pool : List ℕ) : Type 0 where
   pub own : length id ≡ 31
-  pub sound : Sound records pool
   pub terms : terms_from records pool 0 ≡ flatten (tree_in records pool)
   pub levels : depth (tree_in records pool) ≤ 64
   pub fit : arities_fit arities pool ≡ true

@@ -2,63 +2,43 @@
 // normal-form file; then whether that file is its own normal form and encodes as the first one does, and the call in less room.
 #![tactic(auto)]
 
-use described::{byte_at, huge_buffer, name_end, put_file};
-use shown::{answer, bytes_in, decimal, fill, front, holds, name, text};
-use std::num::{wrapping_add_usize, wrapping_sub_usize};
-
-// Standard input.
-const STDIN_FILENO: i32 = 0;
+use described::{huge_buffer, put_file};
+use shown::{again, bytes_in, call, each_line, front, text, written};
 
 // ── A call
 
-// The same file again, into n bytes.
-fn again(file: &[u8], n: usize, out: &mut [u8]) {
-    if out.len() < n {
-        return;
-    }
-    fill(out);
-    let a = normalise::normalise(file, &mut out[0..n]);
-    text(b"  into ");
-    decimal(n as u64);
-    text(b":");
-    answer(a, out);
-}
-
 fn form_again(form: &[u8], out: &mut [u8]) {
     let a = normalise::normalise(form, out);
-    if holds(out, a.length as usize, form) {
+    if written(a, out) == form {
         text(b"  it is its own normal form");
-        return;
+    } else {
+        text(b"  ANOTHER NORMAL FORM");
     }
-    text(b"  ANOTHER NORMAL FORM");
 }
 
 fn table_again(form: &[u8], table: &[u8], out: &mut [u8]) {
     let a = encode::encode(form, out);
-    if holds(out, a.length as usize, table) {
+    if written(a, out) == table {
         text(b", and has the file's table\n");
-        return;
+    } else {
+        text(b", and has ANOTHER TABLE\n");
     }
-    text(b", and has ANOTHER TABLE\n");
 }
 
 fn form_in(file: &[u8], form: &[u8], out: &mut [u8], table: &mut [u8]) {
     form_again(form, out);
     let a = encode::encode(file, table);
-    table_again(form, front(table, a.length as usize), out);
-    again(file, form.len(), out);
-    again(file, wrapping_sub_usize(form.len(), 1), out);
+    table_again(form, written(a, table), out);
 }
 
 fn run_in(file: &[u8], out: &mut [u8], spare: &mut [u8], table: &mut [u8]) {
-    fill(out);
-    let a = normalise::normalise(file, out);
-    answer(a, out);
-    if a.number != 0 {
-        return;
+    let normalise = |out: &mut [u8]| normalise::normalise(file, out);
+    if let Some(n) = call(out, normalise) {
+        bytes_in(out, n);
+        form_in(file, front(out, n), spare, table);
+        again(n, spare, normalise);
+        again(n.wrapping_sub(1), spare, normalise);
     }
-    bytes_in(out, a.length as usize);
-    form_in(file, front(out, a.length as usize), spare, table);
 }
 
 fn run_long(file: &[u8]) {
@@ -69,7 +49,7 @@ fn run_long(file: &[u8]) {
 }
 
 // The normal form of a file under 2,048 bytes, and its table, have under 65,536.
-fn run(file: &[u8]) {
+fn run_file(file: &[u8]) {
     if 2048 <= file.len() {
         run_long(file);
         return;
@@ -82,43 +62,12 @@ fn run(file: &[u8]) {
 
 // ── A line each
 
-fn file(b: &[u8], from: usize, to: usize) {
+fn run(line: &[u8]) {
     let mut buffer = huge_buffer();
-    let n = put_file(b, from, to, &mut buffer);
-    run(front(&buffer, n));
-}
-
-// A line without = is a heading.
-fn line(b: &[u8], from: usize, to: usize) {
-    let end = name_end(b, from, to);
-    name(b, from, end);
-    if end < to {
-        file(b, end, to);
-        return;
-    }
-    text(b"\n");
-}
-
-// Where the line starts that the byte at i does not end.
-fn line_start(b: &[u8], from: usize, i: usize) -> usize {
-    if byte_at(b, i) == b'\n' {
-        line(b, from, i);
-        return wrapping_add_usize(i, 1);
-    }
-    from
-}
-
-fn lines(b: &[u8], n: usize) {
-    let mut from = 0;
-    let mut i = 0;
-    while i < n {
-        from = line_start(b, from, i);
-        i = i + 1;
-    }
+    let n = put_file(line, &mut buffer);
+    run_file(front(&buffer, n));
 }
 
 fn main() {
-    let mut input = io::large_buffer();
-    let n = io::read_full(STDIN_FILENO, &mut input);
-    lines(&input, n);
+    each_line(run);
 }

@@ -1,21 +1,17 @@
 -- Laws of integers: sizes, exactness, and what the code that reads one at a position answers at each of its ends.
 -- For the proofs of this crate and for every reader and writer of terms. Assumes nothing.
-use Rattle.std.specs.Prelude.{◌≡◌, refl, Bool, true, false, ◌&&◌, cond, List, [], ◌∷◌, ◌++◌, ℕ, ◌+◌, ◌*◌, ◌/◌, ◌%◌, ◌^◌, ◌≤◌, ◌<◌, T, eqb, ltb, leb, length, drop, get_or}
-use Rattle.std.proofs.Common.{◌∙◌, ap, eqb→eq, ltb→lt, lt→ltb, leb→le, le→leb, nltb→le}
+use Rattle.std.specs.Prelude.{◌≡◌, refl, Bool, true, false, ◌&&◌, cond, List, [], ◌∷◌, ◌++◌, ℕ, ◌+◌, ◌*◌, ◌/◌, ◌%◌, ◌^◌, ◌≤◌, ◌<◌, T, Some, None, eqb, ltb, leb, length, drop, get_or}
+use Rattle.std.proofs.Common.{◌∙◌, ap, arith, lt-ltb, le-ltb, eqb→eq, ltb→lt, lt→ltb, leb→le, le→leb, nltb→le}
 use Rattle.std.proofs.Math.Option.{some, none-ne-some}
-use native.Mathlib.Omega.{arith}
 use Rattle.std.proofs.Math.Dec.{eqb_refl}
-use borrow.Author.Tests.{lt-ltb, le-ltb}
 use Rattle.octets.specs.Bytes.{◌>>=◌, need, every, is_byte, le, get_le}
 use Rattle.octets.specs.Tests.{and_left, and_right, and_both, not_less, cond_true, cond_false, cond_case, cond_inv, took, gave, need_inv, need_true}
 use Rattle.octets.specs.Exact.{Exact}
 use Rattle.octets.specs.Laws.{le-length, le_exact}
 use Rattle.octets.specs.Reading.{Reads, reads, reads_none, past_end, next_byte}
-use Rattle.octets.specs.declared.Num.{Num}
-use Rattle.octets.specs.declared.Num.TheVariants as num
 use Rattle.number.specs.Integer.{width, prefix, integer}
 use Rattle.number.specs.Get.{announced, get_integer}
-use Rattle.number.specs.Lead.{steps, by-steps, lead_bytes, tested-short, tested_not, tested-done}
+use Rattle.number.specs.Lead.{steps, by-steps, lead_bytes, none-follow, tested-short, tested_not, tested-done}
 
 -- ── Widths
 pub width-steps : (x : ℕ) → width x ≡ 2 ^ steps x 256 65536 4294967296
@@ -153,26 +149,32 @@ unfoldable pub own_form : ℕ → ℕ → Bool
 own_form w x = leb 2 x && eqb (width x) w
 
 module _ (b : List ℕ) (at : ℕ) where
-  pub integer_end : length b ≤ at → Reads get_integer b at num.None
+  pub integer_end : length b ≤ at → Reads get_integer b at None
   unfolding get_integer
   integer_end h = reads_none (rw (past_end b h))
 
   module _ (h : at < length b) (c : ℕ) (is : c ≡ get_or b at 0) where
-    pub integer-one : c < 2 → Reads get_integer b at (num.Some c (at + 1))
+    pub integer-one : c < 2 → Reads get_integer b at (Some (c, at + 1))
     unfolding get_integer
     integer-one s = reads (record { is = rw (next_byte b at h, ← is, lt-ltb c 2 s); low = omega arith; high = omega arith })
 
-    module _ (s : 2 ≤ c) (w : ℕ) (we : w ≡ announced c) {r : Num} (d : Reads (get_le w) b (at + 1) r) where
-      rest : get_integer (drop at b) ≡ (get_le w (drop (at + 1) b) >>= λ v. need (own_form w v.0) (some (v.0, v.1)))
+    module _ (s : 2 ≤ c) where
+      rest : {w : ℕ} → w ≡ announced c → get_integer (drop at b) ≡ (get_le w (drop (at + 1) b) >>= λ v. need (own_form w v.0) (some (v.0, v.1)))
       unfolding get_integer own_form
-      rest = rw (next_byte b at h, ← is, le-ltb c 2 s, ← we)
+      rest we = rw (next_byte b at h, ← is, le-ltb c 2 s, ← we)
 
-      pub integer-cut : r ≡ num.None → Reads get_integer b at num.None
-      integer-cut e = tested-short w (own_form w) (λ x. x) rest d e
+      -- behind a byte that is no prefix no bytes are read, and the 0 that they are has a form of its own
+      pub integer-other : ¬ (1 ≤ announced c) → Reads get_integer b at None
+      unfolding own_form need ◌>>=◌
+      integer-other n = reads_none (rest {w = 0} (omega (arith, n)) ∙ rw (none-follow (drop (at + 1) b)) refl)
 
-      module _ {x next : ℕ} (e : r ≡ num.Some x next) where
-        pub integer_not : own_form w x ≡ false → Reads get_integer b at num.None
-        integer_not t = tested_not w (own_form w) (λ x. x) rest d e t
+      module _ (w : ℕ) (we : w ≡ announced c) where
+        pub integer-cut : Reads (get_le w) b (at + 1) None → Reads get_integer b at None
+        integer-cut d = tested-short w (own_form w) (λ x. x) (rest we) d
 
-        pub integer-done : own_form w x ≡ true → Reads get_integer b at (num.Some x next)
-        integer-done t = tested-done w (own_form w) (λ x. x) rest d e t
+        module _ {x next : ℕ} (d : Reads (get_le w) b (at + 1) (Some (x, next))) where
+          pub integer_not : own_form w x ≡ false → Reads get_integer b at None
+          integer_not t = tested_not w (own_form w) (λ x. x) (rest we) d t
+
+          pub integer-done : own_form w x ≡ true → Reads get_integer b at (Some (x, next))
+          integer-done t = tested-done w (own_form w) (λ x. x) (rest we) d t

@@ -1,23 +1,16 @@
 -- Laws of lengths, of a body and of a field entry at once: sizes, exactness, and what the code that reads one at a position answers.
 -- For the proofs of this crate and for every reader and writer of bodies. Assumes nothing.
-use Rattle.std.specs.Prelude.{◌≡◌, Bool, true, false, cond, eqb, ltb, leb, length, drop, get_or}
-use Rattle.std.proofs.Math.Path.{refl, ap, ap₂}
-use Rattle.std.proofs.Common.{◌∙◌, lt→ltb}
+use Rattle.std.specs.Prelude.{◌≡◌, ℕ, zero, suc, ◌+◌, ◌-◌, ◌*◌, ◌/◌, ◌%◌, ◌^◌, ◌≤◌, ◌<◌, Bool, true, false, T, Some, None, cond, eqb, ltb, leb, List, [], ◌∷◌, ◌++◌, length, drop, get_or, refl}
+use Rattle.std.proofs.Common.{ap, ap₂, ◌∙◌, arith, eqb→eq, ltb→lt, lt→ltb, leb→le, le→leb, lt-ltb, le-ltb, leb-true, leb-false}
 use Rattle.std.proofs.Math.Option.{Option, none, some, none-ne-some}
-use mathlib.Core.List.{List, [], ◌∷◌, ◌++◌}
-use Prim.Native.Nat.{ℕ, zero, suc, ◌+◌, ◌-◌, ◌*◌, ◌/◌, ◌%◌, ◌^◌, ◌≤◌, ◌<◌}
-use native.Mathlib.Omega.{arith}
-use Rattle.std.proofs.Math.Dec.{T, eqb→eq, eqb_refl, ltb→lt, leb→le, le→leb}
-use borrow.Author.Tests.{lt-ltb, le-ltb, le-leb, lt-leb, leb-true, leb-false}
+use Rattle.std.proofs.Math.Dec.{eqb_refl}
 use Rattle.octets.specs.Bytes.{◌>>=◌, need, every, is_byte, le, get_le}
 use Rattle.octets.specs.Tests.{and_left, and_right, and_both, true_test, took, gave, need_inv, need_true}
 use Rattle.octets.specs.Laws.{le-length, le_exact}
 use Rattle.octets.specs.Reading.{Reads, reads_none, past_end, next_byte}
-use Rattle.octets.specs.declared.Num.{Num}
-use Rattle.octets.specs.declared.Num.TheVariants as num
 use Rattle.number.specs.PkgLength.{following, own, largest, length_bytes, create_pkg_length}
 use Rattle.number.specs.Get.{get_length, shortest, get_pkg_length}
-use Rattle.number.specs.Lead.{steps, by-steps, steps-most, lead_bytes, tested-short, tested_not, tested-done}
+use Rattle.number.specs.Lead.{steps, by-steps, steps-most, lead_bytes, none-follow, tested-short, tested_not, tested-done}
 
 -- ── Sizes
 pub following-steps : (n : ℕ) → following n ≡ steps n 63 4094 1048573
@@ -159,10 +152,6 @@ ill_formed (suc k) c bs e f =
     let l : 16 ≤ c % 64 = leb-true 16 (c % 64) (rw (le-ltb c 64 (omega arith)) at f) in
     rw (le-ltb (c % 64) 16 l)
 
-none-follow : (bs : List ℕ) → get_le 0 bs ≡ some (0, bs)
-unfolding le
-none-follow bs = (le_exact 0).back 0 bs (omega arith)
-
 well_formed_lem : (k c : ℕ) (bs : List ℕ) → c / 64 ≡ k → malformed c ≡ false → get_length k c bs ≡ (get_le k bs >>= λ v. some (whole c v.0, v.1))
 unfolding get_length malformed whole need ◌>>=◌
 well_formed_lem zero c bs e f = rw (lt-ltb c 64 (omega arith), none-follow bs)
@@ -177,16 +166,16 @@ bind_some none g f = refl
 bind_some (some v) g f = refl
 
 module _ (self : Bool) (b : List ℕ) (at : ℕ) where
-  pub pkg_length_end : length b ≤ at → Reads (get_pkg_length self) b at num.None
+  pub pkg_length_end : length b ≤ at → Reads (get_pkg_length self) b at None
   unfolding get_pkg_length
   pkg_length_end h = reads_none (rw (past_end b h))
 
   module _ (h : at < length b) (c : ℕ) (is : c ≡ get_or b at 0) where
-    pub pkg_length-malformed : malformed c ≡ true → Reads (get_pkg_length self) b at num.None
+    pub pkg_length-malformed : malformed c ≡ true → Reads (get_pkg_length self) b at None
     unfolding get_pkg_length ◌>>=◌
     pkg_length-malformed f = reads_none (rw (next_byte b at h, ← is, ill_formed (c / 64) c (drop (at + 1) b) refl f))
 
-    module _ (f : malformed c ≡ false) {r : Num} (d : Reads (get_le (c / 64)) b (at + 1) r) where
+    module _ (f : malformed c ≡ false) where
       abbrev tested : ℕ → Bool
       tested x = shortest self (c / 64) (whole c x)
 
@@ -197,32 +186,17 @@ module _ (self : Bool) (b : List ℕ) (at : ℕ) where
       unfolding get_pkg_length
       rest = rw (next_byte b at h, ← is, well_formed_lem (c / 64) c (drop (at + 1) b) refl f) (bind_some (get_le (c / 64) (drop (at + 1) b)) _ _)
 
-      pub pkg_length-short : r ≡ num.None → Reads (get_pkg_length self) b at num.None
-      pkg_length-short e = tested-short (c / 64) tested meant rest d e
+      pub pkg_length-short : Reads (get_le (c / 64)) b (at + 1) None → Reads (get_pkg_length self) b at None
+      pkg_length-short d = tested-short (c / 64) tested meant rest d
 
-      module _ {x next : ℕ} (e : r ≡ num.Some x next) (m : ℕ) (me : m ≡ whole c x) where
-        pub pkg_length_not : shortest self (c / 64) m ≡ false → Reads (get_pkg_length self) b at num.None
-        pkg_length_not t = tested_not (c / 64) tested meant rest d e (rw (← me) t)
+      module _ {x next : ℕ} (d : Reads (get_le (c / 64)) b (at + 1) (Some (x, next))) (m : ℕ) (me : m ≡ whole c x) where
+        pub pkg_length_not : shortest self (c / 64) m ≡ false → Reads (get_pkg_length self) b at None
+        pkg_length_not t = tested_not (c / 64) tested meant rest d (rw (← me) t)
 
-        pub pkg_length-done : shortest self (c / 64) m ≡ true → (o : ℕ) → o ≡ own self (c / 64) → Reads (get_pkg_length self) b at (num.Some (m - o) next)
-        pkg_length-done t o oe = rw (me, oe) (tested-done (c / 64) tested meant rest d e (rw (← me) t))
+        pub pkg_length-done : shortest self (c / 64) m ≡ true → (o : ℕ) → o ≡ own self (c / 64) → Reads (get_pkg_length self) b at (Some (m - o, next))
+        pkg_length-done t o oe = rw (me, oe) (tested-done (c / 64) tested meant rest d (rw (← me) t))
 
--- ── The test that a length is the shortest, as code makes it: o are the own bytes, `top` the largest
-module _ (self : Bool) (k m : ℕ) where
-  pub shortest-own : shortest self k m ≡ true → own self k ≤ m
-  unfolding shortest
-  shortest-own e = let t : T (shortest self k m) = true_test _ e in leb→le (own self k) m (search (and_left, and_right))
-
-  module _ (o : ℕ) (oe : o ≡ own self k) where
-    pub shortest_under : m < o → false ≡ shortest self k m
-    unfolding shortest
-    shortest_under h = rw (← oe, lt-leb o m h) refl
-
-    module _ (h : o ≤ m) (top : ℕ) (te : top ≡ largest self) where
-      pub shortest-over : top < m - o → false ≡ shortest self k m
-      unfolding shortest
-      shortest-over g = rw (← oe, ← te, le-leb o m h, lt-leb (m - o) top g) refl
-
-      pub shortest-is : m - o ≤ top → (f : ℕ) → f ≡ following (m - o) → eqb f k ≡ shortest self k m
-      unfolding shortest
-      shortest-is g f fe = rw (← oe, ← te, le-leb o m h, le-leb (m - o) top g, ← fe) refl
+-- what the shortest length of a body counts is there
+pub shortest-own : (self : Bool) (k m : ℕ) → shortest self k m ≡ true → own self k ≤ m
+unfolding shortest
+shortest-own self k m e = let t : T (shortest self k m) = true_test _ e in leb→le (own self k) m (search (and_left, and_right))

@@ -1,17 +1,14 @@
 -- Both directions of paths on the code: `path_at` and `put_path_text` where the bytes of a path text stand, and what they read where they read something.
 -- Assumes nothing.
-use Rattle.std.specs.Prelude.{◌≡◌, refl, List, ◌++◌, ℕ, ◌+◌, ◌-◌, ◌≤◌, T, drop}
-use Rattle.std.proofs.Math.Path.{sym, ap}
-use Rattle.std.proofs.Common.{◌∙◌, length-drop, drop-drop}
+use Rattle.std.specs.Prelude.{◌≡◌, refl, Some, List, ◌++◌, ℕ, ◌+◌, ◌-◌, ◌≤◌, T, drop}
+use Rattle.std.specs.Prelude as rust
+use Rattle.std.proofs.Common.{sym, ap, ◌∙◌, arith, length-drop, drop-drop}
 use Rattle.std.proofs.Math.Option.{some, Option-elim}
-use native.Mathlib.Omega.{arith}
 use Rattle.std.proofs.Math.ListN.{length, length-append}
 use Rattle.std.proofs.Math.Seq.{drop-append_seam}
 use Rattle.octets.specs.Bytes.{◌>>=◌}
 use Rattle.octets.specs.Tests.{took, gave}
 use Rattle.octets.specs.Reading.{Reads, reads, reads_determined}
-use Rattle.octets.specs.declared.Num.{Num}
-use Rattle.octets.specs.declared.Num.TheVariants as num
 use Rattle.path.specs.Path.{is_path, path_bytes}
 use Rattle.path.specs.Get.{get_path_text, get_path_length, path_text}
 use Rattle.path.specs.PathLaws.{path-text_exact}
@@ -30,7 +27,7 @@ module _ (b : List ℕ) (at : ℕ) (t rest : List ℕ) (g : T (is_path t)) (h : 
   behind : drop (at + length (path_bytes t)) b ≡ rest
   behind = sym (drop-drop (length (path_bytes t)) at b) ∙ rw e (drop-append_seam (path_bytes t) rest)
 
-  pub path-read-back : (r : Num) → Reads get_path_length b at r → r ≡ num.Some (length t) (at + length (path_bytes t))
+  pub path-read-back : (r : rust.Option (ℕ × ℕ)) → Reads get_path_length b at r → r ≡ Some (length t, at + length (path_bytes t))
   unfolding get_path_length ◌>>=◌
   path-read-back r k =
       let l : length b - at ≡ length (path_bytes t) + length rest = sym (length-drop at b) ∙ ap length e ∙ length-append (path_bytes t) rest in

@@ -408,7 +408,8 @@ unfoldable pub part_count : List ℕ → ℕ
 part_count t = (length t - root_size t + 1) / 5
 
 -- a path's parts, taken from its text
-pub path-parts : {C : Type 0} (t : List ℕ) → T (is_path t) → ((p : Path) → T (segments p.parts) → unroot t ≡ (p.root, joined p.parts) → path_bytes t ≡ bytes_of p → Measured t (length (root_of p.root)) (length p.parts) → C) → C
+pub path-parts : {C : Type 0} (t : List ℕ) → T (is_path t)
+    → ((p : Path) → T (segments p.parts) → unroot t ≡ (p.root, joined p.parts) → path_bytes t ≡ bytes_of p → Measured t (length (root_of p.root)) (length p.parts) → C) → C
 unfolding bytes_of text_of
 path-parts t h k =
     path-known t h λ p w e q.

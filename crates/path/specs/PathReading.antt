@@ -1,21 +1,14 @@
 -- Paths as bytes in a slice, for the code that reads them: the root mark, the number of segments, the segments one after the other.
 -- Assumes nothing.
-use Rattle.std.proofs.Math.Path.{◌≡◌, refl}
-use Rattle.std.proofs.Common.{sym, ◌∙◌, ap, length-take, length-drop, drop_at}
-use Rattle.std.specs.Prelude.{Bool, true, ◌&&◌, T, leb, take, drop, get_or}
-use Rattle.std.proofs.Math.Bool.{false}
+use Rattle.std.specs.Prelude.{◌≡◌, ℕ, suc, ◌+◌, ◌-◌, ◌*◌, ◌≤◌, ◌<◌, Bool, true, false, ◌&&◌, T, Some, None, leb, List, ◌∷◌, ◌++◌, length, take, drop, get_or, refl}
+use Rattle.std.proofs.Common.{sym, ◌∙◌, ap, arith, ne_eqb, le-leb, leb-true, leb-false, length-append, length-take, length-drop, drop-drop, drop_at}
 use Rattle.std.proofs.Math.Option.{Option, none, some, Option-elim}
-use mathlib.Core.List.{List, ◌∷◌, ◌++◌, flatten}
-use Prim.Native.Nat.{ℕ, suc, ◌+◌, ◌-◌, ◌*◌, ◌≤◌, ◌<◌}
-use native.Mathlib.Omega.{arith}
-use Rattle.std.proofs.Math.ListN.{length, length-append}
-use Rattle.std.proofs.Math.Seq.{drop-drop}
-use borrow.Author.Tests.{ne_eqb, le-leb, lt-leb, leb-true, leb-false}
+use mathlib.Core.List.{flatten}
+use borrow.Author.Tests.{lt-leb}
 use Rattle.octets.specs.Bytes.{◌>>=◌, need, cut}
 use Rattle.octets.specs.Tests.{true_test}
 use Rattle.octets.specs.Laws.{cut_at, cut_short}
 use Rattle.octets.specs.Reading.{Got, Reads, reads, reads_none, next_byte, past_end}
-use Rattle.octets.specs.declared.Num.TheVariants as num
 use Rattle.path.specs.Path.{segment, root_of, unroot}
 use Rattle.path.specs.Get.{segments, joined, text_of, get_count, get_parts, get_path, get_path_text, get_path_length}
 use Rattle.path.specs.PathLaws.{segment-length, segment_not, counted, count_marks, count-only, names_only, flat_length, joined_length, root_size}
@@ -23,36 +16,36 @@ use Rattle.path.specs.PathText.{segment_at, root-drop}
 
 -- ── The number of segments
 module _ (b : List ℕ) (at : ℕ) where
-  pub count_past : length b ≤ at → Reads get_count b at num.None
+  pub count_past : length b ≤ at → Reads get_count b at None
   unfolding get_count
   count_past h = reads_none (rw (past_end b h))
 
   module _ (h : at < length b) where
-    pub count-two : get_or b at 0 ≡ 0x2E → Reads get_count b at (num.Some 2 (at + 1))
+    pub count-two : get_or b at 0 ≡ 0x2E → Reads get_count b at (Some (2, at + 1))
     count-two e = reads (record { is = rw (next_byte b at h, count_marks, e); low = omega arith; high = omega arith })
 
     module _ (n₁ : get_or b at 0 ≡ 0x2E → ⊥) where
-      pub count-one : (get_or b at 0 ≡ 0x2F → ⊥) → Reads get_count b at (num.Some 1 at)
+      pub count-one : (get_or b at 0 ≡ 0x2F → ⊥) → Reads get_count b at (Some (1, at))
       count-one n₂ = reads (record { is = rw (next_byte b at h, count_marks, ne_eqb _ _ n₁, ne_eqb _ _ n₂); low = omega arith; high = omega arith })
 
       module _ (e : get_or b at 0 ≡ 0x2F) where
         behind : get_count (drop at b) ≡ counted (drop (at + 1) b)
         behind = rw (next_byte b at h, count_marks, e)
 
-        pub count_cut : length b - at < 2 → Reads get_count b at num.None
+        pub count_cut : length b ≤ at + 1 → Reads get_count b at None
         unfolding counted
         count_cut k = reads_none (behind ∙ rw (past_end b {at = at + 1} (omega arith)))
 
-        module _ (k : 2 ≤ length b - at) {n : ℕ} (is : n ≡ get_or b (at + 1) 0) where
+        module _ (k : at + 1 < length b) {n : ℕ} (is : n ≡ get_or b (at + 1) 0) where
           number : get_count (drop at b) ≡ need (leb 3 n && leb n 255) (some (n, drop (at + 2) b))
           unfolding counted
           number = let f : at + 1 + 1 ≡ at + 2 = omega arith in behind ∙ rw (next_byte b (at + 1) (omega arith), f, ← is)
 
-          pub count_low : n < 3 → Reads get_count b at num.None
+          pub count_low : n < 3 → Reads get_count b at None
           unfolding need
           count_low q = reads_none (number ∙ rw (lt-leb 3 n q))
 
-          pub count_many : 3 ≤ n → n < 256 → Reads get_count b at (num.Some n (at + 2))
+          pub count_many : 3 ≤ n → n < 256 → Reads get_count b at (Some (n, at + 2))
           unfolding need
           count_many q s = reads (record { is = number ∙ rw (le-leb 3 n q, le-leb n 255 (omega arith)); low = omega arith; high = omega arith })
 
@@ -76,7 +69,8 @@ segment-first bs f = go (leb 4 (length bs)) refl
     go true e = rw (cut_at 4 bs (leb-true 4 (length bs) e))
     go false e = let l = leb-false 4 (length bs) e in rw (cut_short 4 bs l, segment_not (take 4 bs) (λ q. omega (arith, q, length-take 4 bs)))
 
-pub segment-read : {A : Type 0} (b : List ℕ) (at : ℕ) (f : List ℕ × List ℕ → Option A) → (cut 4 (drop at b) >>= λ v. need (segment v.0) (f v)) ≡ need (segment_at b at) (f (take 4 (drop at b), drop (at + 4) b))
+pub segment-read : {A : Type 0} (b : List ℕ) (at : ℕ) (f : List ℕ × List ℕ → Option A)
+    → (cut 4 (drop at b) >>= λ v. need (segment v.0) (f v)) ≡ need (segment_at b at) (f (take 4 (drop at b), drop (at + 4) b))
 unfolding segment_at
 segment-read b at f = rw (← (drop-drop 4 at b)) (segment-first (drop at b) f)
 
@@ -88,7 +82,8 @@ runs-more : (n : ℕ) (bs : List ℕ) → segment (take 4 bs) && runs n (drop 4 
 unfolding runs get_parts Option-elim need ◌>>=◌
 runs-more n bs = on (segment (take 4 bs)) (get_parts n (drop 4 bs)) ∙ ap (λ m. Option-elim m false (λ v. true)) (sym (segment-first bs (λ v. get_parts n v.1 >>= λ w. some (v.0 ∷ w.0, w.1))))
   where
-    on : (x : Bool) (m : Option (List (List ℕ) × List ℕ)) → x && Option-elim m false (λ v. true) ≡ Option-elim {A = List (List ℕ) × List ℕ} (need x (m >>= λ v. some (take 4 bs ∷ v.0, v.1))) false (λ v. true)
+    on : (x : Bool) (m : Option (List (List ℕ) × List ℕ))
+        → x && Option-elim m false (λ v. true) ≡ Option-elim {A = List (List ℕ) × List ℕ} (need x (m >>= λ v. some (take 4 bs ∷ v.0, v.1))) false (λ v. true)
     on true none = refl
     on true (some v) = refl
     on false m = refl
@@ -150,12 +145,12 @@ module _ (b : List ℕ) (at : ℕ) {k : ℕ} (is : k ≡ root_size (drop at b)) 
   unrooted : (unroot (drop at b)).1 ≡ drop (at + k) b
   unrooted = rw (is, ← (drop-drop (root_size (drop at b)) at b)) (root-drop (drop at b))
 
-  pub path_uncounted : get_count (drop (at + k) b) ≡ none → Reads get_path_length b at num.None
+  pub path_uncounted : get_count (drop (at + k) b) ≡ none → Reads get_path_length b at None
   unfolding get_path_length get_path_text get_path ◌>>=◌
   path_uncounted e = reads_none (rw (unrooted, e))
 
   module _ {n q : ℕ} (c : Got get_count b (at + k) n q) where
-    pub path_broken : runs n (drop q b) ≡ false → Reads get_path_length b at num.None
+    pub path_broken : runs n (drop q b) ≡ false → Reads get_path_length b at None
     unfolding get_path_length get_path_text get_path ◌>>=◌ runs Option-elim
     path_broken h = reads_none (go (get_parts n (drop q b)) refl h)
       where
@@ -163,7 +158,7 @@ module _ (b : List ℕ) (at : ℕ) {k : ℕ} (is : k ≡ root_size (drop at b)) 
         go none e h = rw (unrooted, c.is, e)
         go (some v) e h = let z : ◌≡◌ {A = ℕ} 0 1 = cc in absurd (omega arith)
 
-    pub path-whole : runs n (drop q b) ≡ true → Reads get_path_length b at (num.Some (k + (5 * n - 1)) (q + 4 * n))
+    pub path-whole : runs n (drop q b) ≡ true → Reads get_path_length b at (Some (k + (5 * n - 1), q + 4 * n))
     unfolding get_path_length get_path_text get_path ◌>>=◌ text_of root_size
     path-whole h =
         let r = ran n (drop q b) h in

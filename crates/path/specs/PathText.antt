@@ -1,13 +1,11 @@
 -- Paths as text in a slice, for the code that checks, measures and encodes them: segment after segment, each four characters, with a dot between.
 -- Assumes nothing.
-use Rattle.std.specs.Prelude.{◌≡◌, Bool, ◌&&◌, List, [], ◌∷◌, ℕ, ◌+◌, ◌-◌, ◌*◌, ◌≤◌, ◌<◌, eqb, leb, length, take, drop, get_or}
-use Rattle.std.proofs.Math.Path.{refl, sym}
-use Rattle.std.proofs.Common.{◌∙◌, ap, arith, length-append, length-take-le, take_all, drop-drop, get_or-drop}
-use Rattle.std.proofs.Math.Bool.{true, false}
+use Rattle.std.specs.Prelude.{◌≡◌, ℕ, ◌+◌, ◌-◌, ◌*◌, ◌≤◌, ◌<◌, Bool, true, false, cond, ◌&&◌, eqb, leb, List, [], ◌∷◌, length, take, drop, get_or, refl}
+use Rattle.std.proofs.Common.{sym, ap, ◌∙◌, arith, eq-eqb, ne_eqb, le-leb, leb-true, leb-false, length-append, length-take, length-drop, length-take-le, take_all, drop-drop, get_or-drop}
 use Rattle.std.proofs.Math.Option.{Option, none, some, Option-elim}
-use Rattle.std.proofs.Math.ListN.{length-take, length-drop}
 use Rattle.std.proofs.Math.Seq.{take-append_seam, drop-append_seam, split_at}
-use borrow.Author.Tests.{eq-eqb, ne_eqb, le-leb, lt-leb, leb-true, leb-false}
+use Rattle.std.specs.Int.{from_bool}
+use borrow.Author.Tests.{lt-leb}
 use Rattle.octets.specs.Bytes.{◌>>=◌, need, every}
 use Rattle.octets.specs.Reading.{next_byte, past_end}
 use Rattle.path.specs.Path.{lead_name, name_char, segment, Path, root_of, unroot, parts_of, path_of, is_path}
@@ -21,28 +19,34 @@ pub segment-whole : (t : List ℕ) → length t ≡ 4 → segment_at t 0 ≡ seg
 unfolding segment_at
 segment-whole t h = rw (take_all 4 t (omega arith))
 
+segment-front : (u : List ℕ) → 4 ≤ length u → lead_name (get_or u 0 0) && name_char (get_or u 1 0) && name_char (get_or u 2 0) && name_char (get_or u 3 0) ≡ segment (take 4 u)
+unfolding segment every
+segment-front [] h = absurd (omega arith)
+segment-front (a ∷ []) h = absurd (omega arith)
+segment-front (a ∷ b ∷ []) h = absurd (omega arith)
+segment-front (a ∷ b ∷ c ∷ []) h = absurd (omega arith)
+segment-front (a ∷ b ∷ c ∷ d ∷ u) h = go (lead_name a) (name_char b) (name_char c) (name_char d)
+  where
+    go : (x y z w : Bool) → (((x && y) && z) && w) ≡ ((x && (y && (z && (w && true)))) && true)
+    go true true true true = refl
+    go true true true false = refl
+    go true true false w = refl
+    go true false z w = refl
+    go false y z w = refl
+
 module _ (b : List ℕ) (at : ℕ) where
   pub segment-short : length b - at < 4 → false ≡ segment_at b at
   unfolding segment_at
   segment-short h = sym (segment_not (take 4 (drop at b)) (λ e. omega (arith, e, length-take 4 (drop at b), length-drop at b)))
 
-  module _ (h : 4 ≤ length b - at) where
-    four : take 4 (drop at b) ≡ get_or b at 0 ∷ get_or b (at + 1) 0 ∷ get_or b (at + 2) 0 ∷ get_or b (at + 3) 0 ∷ []
-    four =
-        let e₁ : at + 1 + 1 ≡ at + 2 = omega arith in
-        let e₂ : at + 2 + 1 ≡ at + 3 = omega arith in
-        rw (next_byte b at (omega arith), next_byte b (at + 1) (omega arith), e₁, next_byte b (at + 2) (omega arith), e₂, next_byte b (at + 3) (omega arith))
+  -- s is what stands there, as it is lent
+  module _ {s : List ℕ} (is : s ≡ take (length b - at) (drop at b)) where
+    pub segment-few : length s < 4 → false ≡ segment_at b at
+    segment-few h = segment-short (omega (arith, ap length is, length-take (length b - at) (drop at b), length-drop at b))
 
-    pub segment-is : lead_name (get_or b at 0) && name_char (get_or b (at + 1) 0) && name_char (get_or b (at + 2) 0) && name_char (get_or b (at + 3) 0) ≡ segment_at b at
-    unfolding segment_at segment every
-    segment-is = rw four (go (lead_name (get_or b at 0)) (name_char (get_or b (at + 1) 0)) (name_char (get_or b (at + 2) 0)) (name_char (get_or b (at + 3) 0)))
-      where
-        go : (x y z w : Bool) → (((x && y) && z) && w) ≡ ((x && (y && (z && (w && true)))) && true)
-        go true true true true = refl
-        go true true true false = refl
-        go true true false w = refl
-        go true false z w = refl
-        go false y z w = refl
+    pub segment-is : 4 ≤ length s → lead_name (get_or s 0 0) && name_char (get_or s 1 0) && name_char (get_or s 2 0) && name_char (get_or s 3 0) ≡ segment_at b at
+    unfolding segment_at
+    segment-is h = let e : s ≡ drop at b = is ∙ take_all (length b - at) (drop at b) (rw length-drop (omega arith)) in segment-front s h ∙ rw e refl
 
 -- ── The root mark
 pub root-fits : (b : List ℕ) → root_size b ≤ length b
@@ -69,14 +73,13 @@ pub root_none : (b : List ℕ) {at : ℕ} → length b ≤ at → 0 ≡ root_siz
 unfolding root_size root_of unroot
 root_none b h = rw (past_end b h)
 
-module _ (b : List ℕ) (at : ℕ) (h : at < length b) where
-  pub root-there : get_or b at 0 ≡ 0x5C → 1 ≡ root_size (drop at b)
-  unfolding root_size root_of unroot
-  root-there e = rw (next_byte b at h, e)
-
-  pub root_not : (get_or b at 0 ≡ 0x5C → ⊥) → 0 ≡ root_size (drop at b)
-  unfolding root_size root_of unroot
-  root_not e = rw (next_byte b at h, ne_eqb _ _ e)
+pub root-byte : (b : List ℕ) (at : ℕ) → at < length b → {c : ℕ} → c ≡ get_or b at 0 → from_bool (eqb c 0x5C) ≡ root_size (drop at b)
+unfolding root_size root_of unroot
+root-byte b at h {c} is = rw (next_byte b at h, ← is) (go (eqb c 0x5C) (drop (at + 1) b))
+  where
+    go : (x : Bool) (t : List ℕ) → from_bool x ≡ length (root_of (cond {A = Bool × List ℕ} x (true, t) (false, c ∷ t)).0)
+    go true t = refl
+    go false t = refl
 
 -- ── Whether a text is segments joined by dots, decided by the first and what is behind it
 unfoldable pub chain : List ℕ → Bool
@@ -118,7 +121,8 @@ is-path t = go (parts_of (unroot t).1) refl
     kept true p = refl
     kept false p = refl
 
-    go : (m : Option (List (List ℕ))) → parts_of (unroot t).1 ≡ m → Option-elim m false (λ ss. true) && leb (length (unroot t).1) 1274 ≡ Option-elim {A = Path} (m >>= λ ss. need (leb (length ss) 255) (some (record { root = (unroot t).0; parts = ss }))) false (λ p. true)
+    go : (m : Option (List (List ℕ))) → parts_of (unroot t).1 ≡ m
+        → Option-elim m false (λ ss. true) && leb (length (unroot t).1) 1274 ≡ Option-elim {A = Path} (m >>= λ ss. need (leb (length ss) 255) (some (record { root = (unroot t).0; parts = ss }))) false (λ p. true)
     go none e = refl
     go (some ss) e = let (l, k) = parts-length (unroot t).1 ss e in rw (k, few (length ss) l) (kept (leb (length ss) 255) _)
 

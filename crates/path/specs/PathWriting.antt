@@ -2,7 +2,7 @@
 -- Assumes nothing.
 use Rattle.std.specs.Prelude.{◌≡◌, true, ℕ, zero, suc, ◌+◌, ◌-◌, ◌*◌, ◌/◌, ◌≤◌, ◌<◌, T}
 use Rattle.std.proofs.Math.Path.{refl}
-use Rattle.std.proofs.Common.{sym, ◌∙◌, ap, mul-suc, sub-one, ne_eqb, length-drop, drop-drop}
+use Rattle.std.proofs.Common.{sym, ◌∙◌, ap, mul-suc, sub-one, length-drop, drop-drop}
 use Rattle.std.proofs.Math.Option.{Option, none, some, Option-elim, none-ne-some}
 use mathlib.Core.List.{List, [], ◌∷◌, ◌++◌, flatten}
 use native.Mathlib.Omega.{arith}
@@ -10,25 +10,12 @@ use Rattle.std.proofs.Math.ListN.{length, take, drop, length-append}
 use Rattle.std.proofs.Math.Seq.{drop-append_seam}
 use Rattle.octets.specs.Bytes.{◌>>=◌, le}
 use Rattle.octets.specs.Tests.{and_left, and_right, took, gave}
-use Rattle.octets.specs.Filling.{Parts, parts₂, parts₃, Wrote, Filling, lent, returned, filling_start, filling_lent, filling_end}
+use Rattle.octets.specs.Filling.{parts₂, parts₃, Writing, writing_start, Wrote, Filling, lent, returned, filling_start, filling_lent, filling_end}
 use Rattle.octets.specs.Reading.{Got}
 use Rattle.path.specs.Path.{Path, segment, root_of, is_path, count_bytes, bytes_of, path_bytes}
 use Rattle.path.specs.Get.{segments, joined, text_of, get_path, get_path_text, get_path_length, path_text}
 use Rattle.path.specs.PathLaws.{segment-length, fours, flat_length, joined_length, root_size, part_count, Measured, path-parts, path-text-length, PathRead, path-read}
 use Rattle.path.specs.PathText.{root-take, root-drop, root-room}
-
--- ── The number of segments
-pub count-bare : (n : ℕ) → n ≡ 1 → count_bytes n ≡ []
-unfolding count_bytes
-count-bare n e = rw e
-
-pub count_dual : (n : ℕ) → n ≡ 2 → count_bytes n ≡ 0x2E ∷ []
-unfolding count_bytes
-count_dual n e = rw e
-
-pub count_multi : (n : ℕ) → (n ≡ 1 → ⊥) → (n ≡ 2 → ⊥) → count_bytes n ≡ 0x2F ∷ n ∷ []
-unfolding count_bytes
-count_multi n e f = rw (ne_eqb n 1 e, ne_eqb n 2 f)
 
 -- ── Segments behind the first: each behind `skip` bytes of u, and written behind as many dots as `dots`
 unfoldable pub spaced : ℕ → ℕ → ℕ → List ℕ → List ℕ
@@ -49,31 +36,36 @@ spaced-more b skip dots p (suc n) z =
     let e : p + (skip + 4) ≡ p + skip + 4 = omega arith in
     rw (four_is b (p + skip), sub-one (suc n), drop-drop skip p b, drop-drop (skip + 4) p b, e)
 
--- the loop: `left` of them are to come, from p on
-pub record Spacing (b : List ℕ) (skip dots : ℕ) (whole : List ℕ) (p left at : ℕ) (first out : List ℕ) : Type 0 where
-  pub fill : Filling whole (spaced skip dots left (drop p b)) at first out
-  pub there : p + (skip + 4) * left ≤ length b
+-- the loop: those from the i-th on are to come, from p on
+pub record Spacing (b : List ℕ) (skip dots n : ℕ) (whole : List ℕ) (p i at : ℕ) (first out : List ℕ) : Type 0 where
+  pub fill : Filling whole (spaced skip dots (n - i) (drop p b)) at first out
+  pub there : p + (skip + 4) * (n - i) ≤ length b
 
-pub spacing_start : {b : List ℕ} {skip dots from n : ℕ} (first : List ℕ) → from + (skip + 4) * n ≤ length b → length (spaced skip dots n (drop from b)) ≤ length first → Spacing b skip dots (spaced skip dots n (drop from b)) from n 0 first first
-spacing_start first l h = record { fill = filling_start first refl h; there = l }
+pub spacing_start : {b : List ℕ} {skip dots from n : ℕ} (first : List ℕ) → from + (skip + 4) * n ≤ length b → length (spaced skip dots n (drop from b)) ≤ length first
+    → Spacing b skip dots n (spaced skip dots n (drop from b)) from 0 0 first first
+spacing_start {n = n} first l h = let e : n - 0 ≡ n = omega arith in record { fill = filling_start first (rw e refl) h; there = rw e l }
 
-module _ {b : List ℕ} {skip dots : ℕ} {whole : List ℕ} {p left at : ℕ} {first out : List ℕ} (h : Spacing b skip dots whole p left at first out) where
-  pub spacing_end : left ≤ 0 → Wrote whole first out at
+module _ {b : List ℕ} {skip dots n : ℕ} {whole : List ℕ} {p i at : ℕ} {first out : List ℕ} (h : Spacing b skip dots n whole p i at first out) where
+  pub spacing_end : n ≤ i → Wrote whole first out at
   unfolding spaced
-  spacing_end z = let e : left ≡ 0 = omega arith in filling_end h.fill (rw e (omega arith))
+  spacing_end z = let e : n - i ≡ 0 = omega arith in filling_end h.fill (rw e (omega arith))
 
-  module _ (z : 0 < left) where
-    pub spacing_there : p + skip + 4 + (skip + 4) * (left - 1) ≤ length b
-    spacing_there = let e : left ≡ suc (left - 1) = omega arith in omega (arith, rw (e, mul-suc (skip + 4) (left - 1)) at h.there)
+  module _ (z : i < n) where
+    next : n - i - 1 ≡ n - (i + 1)
+    next = omega arith
 
-    pub spacing_more : Filling whole (le dots 0x2E ++ (four b (p + skip) ++ spaced skip dots (left - 1) (drop (p + skip + 4) b))) at first out
-    spacing_more = rw (spaced-more b skip dots p left z) at h.fill
+    pub spacing_there : p + skip + 4 + (skip + 4) * (n - (i + 1)) ≤ length b
+    spacing_there = let e : n - i ≡ suc (n - (i + 1)) = omega arith in omega (arith, rw (e, mul-suc (skip + 4) (n - (i + 1))) at h.there)
 
-    module _ {n : ℕ} {ys : List ℕ} (w : Wrote (le dots 0x2E) (lent at out) ys n) where
-      pub spacing_dotted : Filling whole (four b (p + skip) ++ spaced skip dots (left - 1) (drop (p + skip + 4) b)) (at + n) first (returned at out ys)
+    pub spacing_more : Filling whole (le dots 0x2E ++ (four b (p + skip) ++ spaced skip dots (n - (i + 1)) (drop (p + skip + 4) b))) at first out
+    spacing_more = rw (spaced-more b skip dots p (n - i) (omega arith), next) at h.fill
+
+    module _ {r : ℕ} {ys : List ℕ} (w : Wrote (le dots 0x2E) (lent at out) ys r) where
+      pub spacing_dotted : Filling whole (four b (p + skip) ++ spaced skip dots (n - (i + 1)) (drop (p + skip + 4) b)) (at + r) first (returned at out ys)
       spacing_dotted = filling_lent (le dots 0x2E) _ spacing_more w
 
-      pub spacing_turn : {m : ℕ} {zs : List ℕ} → Wrote (four b (p + skip)) (lent (at + n) (returned at out ys)) zs m → Spacing b skip dots whole (p + skip + 4) (left - 1) (at + n + m) first (returned (at + n) (returned at out ys) zs)
+      pub spacing_turn : {m : ℕ} {zs : List ℕ} → Wrote (four b (p + skip)) (lent (at + r) (returned at out ys)) zs m
+          → Spacing b skip dots n whole (p + skip + 4) (i + 1) (at + r + m) first (returned (at + r) (returned at out ys) zs)
       spacing_turn v = record { fill = filling_lent (four b (p + skip)) _ spacing_dotted v; there = spacing_there }
 
 -- ── n segments: the first, and the others behind it
@@ -115,20 +107,20 @@ module _ (t : List ℕ) (h : T (is_path t)) {k : ℕ} (is : k ≡ root_size t) w
   unfolding part_count
   path-size = rw is (path-text-length t h)
 
-  pub path-spelled : path_bytes t ≡ take (k - 0) t ++ (count_bytes ((length t - k + 1) / 5) ++ strung 1 0 ((length t - k + 1) / 5) (drop k t))
+  pub path-spelled : path_bytes t ≡ take k t ++ (count_bytes ((length t - k + 1) / 5) ++ strung 1 0 ((length t - k + 1) / 5) (drop k t))
   unfolding root_size bytes_of
   path-spelled =
       path-parts t h λ p s d q m.
-      let e₀ : k - 0 ≡ k = omega arith in
       let e₁ : take k t ≡ root_of p.root = rw is (sym (root-take t) ∙ rw d refl) in
       let e₂ : drop k t ≡ joined p.parts = rw is (sym (root-drop t) ∙ rw d refl) in
       let e₃ : k ≡ length (root_of p.root) = is ∙ rw d refl in
       let n : (length t - k + 1) / 5 ≡ length p.parts = omega (arith, m.text, m.least) in
-      q ∙ rw (e₀, e₁, e₂, n, ← (spelled-parts p.parts s m.least))
+      q ∙ rw (e₁, e₂, n, ← (spelled-parts p.parts s m.least))
 
   -- the same, as three writers in a row have it
-  pub path_in_parts : Parts (path_bytes t) (take (k - 0) t ∷ count_bytes ((length t - k + 1) / 5) ∷ strung 1 0 ((length t - k + 1) / 5) (drop k t) ∷ [])
-  path_in_parts = parts₃ path-spelled
+  pub path_writing : (first : List ℕ) → length (path_bytes t) ≤ length first
+      → Writing (path_bytes t) (take k t ∷ count_bytes ((length t - k + 1) / 5) ∷ strung 1 0 ((length t - k + 1) / 5) (drop k t) ∷ []) 0 first first
+  path_writing first r = writing_start first (parts₃ path-spelled) r
 
 -- ── Text from the bytes at `at`, of which k are the root mark: its length v and its end `next` say where its n segments stand
 pub record TextAt (b : List ℕ) (at k v next n : ℕ) : Type 0 where
@@ -183,8 +175,9 @@ text_at_lem {b} {at} {v} {next} {k} g is =
     text-stands b at next p (rw (f₁ ∙ f) at (path-read (drop at b) p z h₃)) is g.low g.high (sym e ∙ ap length (sym e₁)) (rw h₃ refl)
 
 -- the text as two writers in a row have it
-pub text_in-parts : {b : List ℕ} {at k v next n : ℕ} → TextAt b at k v next n → Parts (path_text (drop at b)) (take (at + k - at) (drop at b) ∷ strung 0 1 n (drop (next - 4 * n) b) ∷ [])
-text_in-parts h = parts₂ h.text
+pub text_writing : {b : List ℕ} {at k v next n : ℕ} → TextAt b at k v next n → (first : List ℕ) → length (path_text (drop at b)) ≤ length first
+    → Writing (path_text (drop at b)) (take (at + k - at) (drop at b) ∷ strung 0 1 n (drop (next - 4 * n) b) ∷ []) 0 first first
+text_writing h first r = writing_start first (parts₂ h.text) r
 
 -- nothing is written where no path stands
 pub no_text : (bs : List ℕ) {out : List ℕ} → get_path_length bs ≡ none → Wrote (path_text bs) out out 0

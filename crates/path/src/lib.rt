@@ -13,45 +13,35 @@ ghost use Rattle.path.specs.PathReading.{runs};
 ghost use Rattle.path.specs.PathWriting.{spaced, strung};
 ghost use Rattle.path.specs.PathSpelled.{spelled};
 
-use octets::{Num, between, both};
-
 // ── Segments
 
 // Whether c may begin a segment: A to Z, or _.
+#[tactic(auto, unfolding(crate::specs::Path::lead_name))]
 fn is_lead(c: u8) -> bool
     ensures { result ≡ lead_name c }
 {
-    if between(65, c, 90) {
-        return true;
-    }
-    c == 95
+    matches!(c, b'A'..=b'Z' | b'_')
 }
 
 // Whether c may stand in one: those, or 0 to 9.
+#[tactic(auto, unfolding(crate::specs::Path::name_char))]
 fn is_name_char(c: u8) -> bool
     ensures { result ≡ name_char c }
 {
-    if is_lead(c) {
-        return true;
-    }
-    between(48, c, 57)
+    is_lead(c) || matches!(c, b'0'..=b'9')
 }
 
 // Whether the four bytes from `at` on are there, and a segment.
 pub fn is_segment(b: &[u8], at: usize) -> bool
     ensures { result ≡ segment_at b.now at }
 {
-    if b.len() < at {
+    let Some(rest) = b.get(at..) else {
         return false;
-    }
-    if b.len() - at < 4 {
+    };
+    let [lead, second, third, last, ..] = rest else {
         return false;
-    }
-    let first = both(is_lead(b[at]), is_name_char(b[at + 1]));
-    both(
-        both(first, is_name_char(b[at + 2])),
-        is_name_char(b[at + 3]),
-    )
+    };
+    is_lead(*lead) && is_name_char(*second) && is_name_char(*third) && is_name_char(*last)
 }
 
 // ── Path text
@@ -60,10 +50,10 @@ pub fn is_segment(b: &[u8], at: usize) -> bool
 pub fn root_at(b: &[u8], at: usize) -> usize
     ensures { result ≡ root_size (drop at b.now) }
 {
-    if b.len() <= at {
-        return 0;
+    match b.get(at) {
+        Some(c) => usize::from(*c == b'\\'),
+        None => 0,
     }
-    if b[at] == 0x5C { 1 } else { 0 }
 }
 
 // Whether t is a path. 255 segments and the dots between them are 1,274 characters: what is longer is not scanned.
@@ -74,15 +64,12 @@ pub fn is_path(t: &[u8]) -> bool
     if 1274 < t.len() - at {
         return false;
     }
+    // A segment and its dot a turn: whether one more turn follows is seen in the text, and the last has no dot.
     while at + 4 < t.len() {
-        if t[at + 4] != 0x2E {
+        if t[at + 4] != b'.' || !is_segment(t, at) {
             return false;
         }
-        if is_segment(t, at) {
-            at = at + 5;
-        } else {
-            return false;
-        }
+        at += 5;
     }
     is_segment(t, at)
 }
@@ -90,29 +77,34 @@ pub fn is_path(t: &[u8]) -> bool
 // ── Path text to bytes
 
 // How many bytes say that n segments follow.
+#[tactic(auto, unfolding(crate::specs::Path::count_bytes))]
 fn count_len(n: usize) -> usize
     ensures { result ≡ length (count_bytes n) }
 {
-    if n == 1 {
-        return 0;
+    match n {
+        1 => 0,
+        2 => 1,
+        _ => 2,
     }
-    if n == 2 { 1 } else { 2 }
 }
 
+#[tactic(auto, unfolding(crate::specs::Path::count_bytes))]
 fn put_count(n: usize, out: &mut [u8]) -> usize
     requires { (n ≤ 255) × (length (count_bytes n) ≤ length out.old) }
     ensures { Wrote (count_bytes n) out.old out.new result }
 {
-    if n == 1 {
-        return 0;
+    match n {
+        1 => 0,
+        2 => {
+            out[0] = 0x2E;
+            1
+        }
+        _ => {
+            out[0] = 0x2F;
+            out[1] = n as u8;
+            2
+        }
     }
-    if n == 2 {
-        out[0] = 0x2E;
-        return 1;
-    }
-    out[0] = 0x2F;
-    out[1] = n as u8;
-    2
 }
 
 // n more segments: in b each stands behind `skip` bytes, in `out` behind as many dots as `dots`.
@@ -121,14 +113,12 @@ fn put_spaced(b: &[u8], from: usize, n: usize, skip: usize, dots: usize, out: &m
     ensures { Wrote (spaced skip dots n (drop from b.now)) out.old out.new result }
 {
     let mut p = from;
-    let mut left = n;
     let mut at = 0;
-    while 0 < left {
-        at = at + octets::put_le(dots, 0x2E, &mut out[at..]);
-        p = p + skip;
-        at = at + octets::put_slice(&b[p..p + 4], &mut out[at..]);
-        p = p + 4;
-        left = left - 1;
+    for _ in 0..n {
+        at += octets::put_le(dots, 0x2E, &mut out[at..]);
+        p += skip;
+        at += octets::put_slice(&b[p..p + 4], &mut out[at..]);
+        p += 4;
     }
     at
 }
@@ -139,8 +129,8 @@ fn put_parts(b: &[u8], from: usize, n: usize, skip: usize, dots: usize, out: &mu
     ensures { Wrote (strung skip dots n (drop from b.now)) out.old out.new result }
 {
     let mut at = 0;
-    at = at + octets::put_slice(&b[from..from + 4], &mut out[at..]);
-    at = at + put_spaced(b, from + 4, n - 1, skip, dots, &mut out[at..]);
+    at += octets::put_slice(&b[from..from + 4], &mut out[at..]);
+    at += put_spaced(b, from + 4, n - 1, skip, dots, &mut out[at..]);
     at
 }
 
@@ -162,40 +152,25 @@ pub fn put_path(t: &[u8], out: &mut [u8]) -> usize
     let k = root_at(t, 0);
     let n = (t.len() - k + 1) / 5;
     let mut at = 0;
-    at = at + octets::put_slice(&t[0..k], &mut out[at..]);
-    at = at + put_count(n, &mut out[at..]);
-    at = at + put_parts(t, k, n, 1, 0, &mut out[at..]);
+    at += octets::put_slice(&t[..k], &mut out[at..]);
+    at += put_count(n, &mut out[at..]);
+    at += put_parts(t, k, n, 1, 0, &mut out[at..]);
     at
 }
 
 // ── Path bytes
 
 // The number of segments, of which 2E says that it is two and 2F that it follows, and where the first begins.
-fn count_at(b: &[u8], at: usize) -> Num
+fn count_at(b: &[u8], at: usize) -> Option<(u64, usize)>
     ensures { Reads get_count b.now at result }
 {
-    if b.len() <= at {
-        return Num::None;
-    }
-    if b[at] == 0x2E {
-        return Num::Some {
-            value: 2,
-            next: at + 1,
-        };
-    }
-    if b[at] != 0x2F {
-        return Num::Some { value: 1, next: at };
-    }
-    if b.len() - at < 2 {
-        return Num::None;
-    }
-    let n = octets::wide(b[at + 1]);
-    if n < 3 {
-        return Num::None;
-    }
-    Num::Some {
-        value: n,
-        next: at + 2,
+    match *b.get(at)? {
+        0x2E => Some((2, at + 1)),
+        0x2F => {
+            let n = u64::from(*b.get(at + 1)?);
+            if n < 3 { None } else { Some((n, at + 2)) }
+        }
+        _ => Some((1, at)),
     }
 }
 
@@ -204,11 +179,8 @@ fn are_segments(b: &[u8], from: usize, n: usize) -> bool
     requires { from ≤ length b.now }
     ensures { result ≡ runs n (drop from b.now) }
 {
-    let mut i = 0;
-    while i < n {
-        if is_segment(b, from + 4 * i) {
-            i = i + 1;
-        } else {
+    for i in 0..n {
+        if !is_segment(b, from + 4 * i) {
             return false;
         }
     }
@@ -216,24 +188,16 @@ fn are_segments(b: &[u8], from: usize, n: usize) -> bool
 }
 
 // The length of the path's text, and where its bytes end.
-pub fn path_at(b: &[u8], at: usize) -> Num
+pub fn path_at(b: &[u8], at: usize) -> Option<(u64, usize)>
     ensures { Reads get_path_length b.now at result }
 {
     let k = root_at(b, at);
-    let c = count_at(b, at + k);
-    match c {
-        Num::Some { value: n, next: q } => {
-            let m = n as usize;
-            if are_segments(b, q, m) {
-                Num::Some {
-                    value: k as u64 + (5 * n - 1),
-                    next: q + 4 * m,
-                }
-            } else {
-                Num::None
-            }
-        }
-        Num::None => Num::None,
+    let (n, q) = count_at(b, at + k)?;
+    let m = n as usize;
+    if are_segments(b, q, m) {
+        Some((k as u64 + (5 * n - 1), q + 4 * m))
+    } else {
+        None
     }
 }
 
@@ -242,18 +206,15 @@ pub fn put_path_text(b: &[u8], at: usize, out: &mut [u8]) -> usize
     requires { length (path_text (drop at b.now)) ≤ length out.old }
     ensures { Wrote (path_text (drop at b.now)) out.old out.new result }
 {
-    let found = path_at(b, at);
-    match found {
-        Num::Some { value, next } => {
-            let k = root_at(b, at);
-            let n = (value as usize - k + 1) / 5;
-            let mut end = 0;
-            end = end + octets::put_slice(&b[at..at + k], &mut out[end..]);
-            end = end + put_parts(b, next - 4 * n, n, 0, 1, &mut out[end..]);
-            end
-        }
-        Num::None => 0,
-    }
+    let Some((v, next)) = path_at(b, at) else {
+        return 0;
+    };
+    let k = root_at(b, at);
+    let n = (v as usize - k + 1) / 5;
+    let mut end = 0;
+    end += octets::put_slice(&b[at..at + k], &mut out[end..]);
+    end += put_parts(b, next - 4 * n, n, 0, 1, &mut out[end..]);
+    end
 }
 
 // Byte i of the text that `head` and the segments in `rest` spell.
@@ -265,8 +226,5 @@ pub fn spelled_at(head: &[u8], rest: &[u8], i: usize) -> u8
         return head[i];
     }
     let j = i - head.len();
-    if j % 5 == 4 {
-        return 0x2E;
-    }
-    rest[j - j / 5]
+    if j % 5 == 4 { b'.' } else { rest[j - j / 5] }
 }

@@ -4,75 +4,56 @@
 // Bytes stand as the pool of a file. Length and checksum are made right, but behind !.
 #![tactic(auto)]
 
-use described::{byte_at, huge_buffer, mark_at, name_end, put, put_file};
-use shown::{answer, bytes_in, decimal, fill, front, holds, mixed, name, text};
-use std::num::{wrapping_add_u8, wrapping_add_u64, wrapping_add_usize, wrapping_sub_usize};
-
-// Standard input.
-const STDIN_FILENO: i32 = 0;
+use described::{huge_buffer, put, put_file, split_once};
+use refusal::Refusal;
+use shown::{again, bytes_in, call, decimal, each_line, front, mixed, text, written};
 
 // ── A call
-
-// The same table again, into n bytes.
-fn again(list: &[u8], table: &[u8], n: usize, out: &mut [u8]) {
-    if out.len() < n {
-        return;
-    }
-    fill(out);
-    let a = reader::read(list, table, &mut out[0..n]);
-    text(b"  into ");
-    decimal(n as u64);
-    text(b":");
-    answer(a, out);
-}
 
 // Whether a file's table is this one.
 fn gives(form: &[u8], table: &[u8], out: &mut [u8]) -> bool {
     let a = encode::encode(form, out);
-    holds(out, a.length as usize, table)
+    written(a, out) == table
 }
 
 fn table_again(form: &[u8], table: &[u8], out: &mut [u8]) {
     if gives(form, table, out) {
         text(b"  it has this table\n");
-        return;
+    } else {
+        text(b"  it has ANOTHER TABLE\n");
     }
-    text(b"  it has ANOTHER TABLE\n");
 }
 
-// The length of the file that was read.
-fn run(list: &[u8], table: &[u8], out: &mut [u8], spare: &mut [u8]) -> usize {
-    fill(out);
-    let a = reader::read(list, table, out);
-    let n = a.length as usize;
-    answer(a, out);
-    if a.number != 0 {
-        again(list, table, 0, out);
-        return 0;
-    }
+// The length of the file, where one is read.
+fn read_in(list: &[u8], table: &[u8], out: &mut [u8], spare: &mut [u8]) -> Option<usize> {
+    let read = |out: &mut [u8]| reader::read(list, table, out);
+    let Some(n) = call(out, read) else {
+        again(0, out, read);
+        return None;
+    };
     bytes_in(out, n);
     table_again(front(out, n), table, spare);
-    again(list, table, n, spare);
-    again(list, table, wrapping_sub_usize(n, 1), spare);
-    n
+    again(n, spare, read);
+    again(n.wrapping_sub(1), spare, read);
+    Some(n)
 }
 
 fn form_held(file: &[u8], form: &[u8], out: &mut [u8]) {
     let a = normalise::normalise(file, out);
-    if holds(out, a.length as usize, form) {
+    if written(a, out) == form {
         text(b"  it is the file's normal form\n");
-        return;
+    } else {
+        text(b"  it is ANOTHER FILE\n");
     }
-    text(b"  it is ANOTHER FILE\n");
 }
 
 // What is read is held to the file's normal form; where the file is empty, to none.
 fn run_in(file: &[u8], list: &[u8], table: &[u8], out: &mut [u8], spare: &mut [u8]) {
-    let n = run(list, table, out, spare);
-    if octets::either(n == 0, file.len() == 0) {
-        return;
+    if let Some(n) = read_in(list, table, out, spare)
+        && !file.is_empty()
+    {
+        form_held(file, front(out, n), spare);
     }
-    form_held(file, front(out, n), spare);
 }
 
 fn run_long(file: &[u8], list: &[u8], table: &[u8]) {
@@ -96,12 +77,10 @@ fn run_table(file: &[u8], list: &[u8], table: &[u8]) {
 
 fn run_file(file: &[u8], list: &[u8]) {
     let mut table = huge_buffer();
-    let a = encode::encode(file, &mut table);
-    if a.number != 0 {
-        text(b" no table\n");
-        return;
+    match encode::encode(file, &mut table) {
+        Ok(n) => run_table(file, list, front(&table, n)),
+        Err(_) => text(b" no table\n"),
     }
-    run_table(file, list, front(&table, a.length as usize));
 }
 
 // ── Tables that differ
@@ -110,29 +89,26 @@ fn run_file(file: &[u8], list: &[u8]) {
 fn mend(table: &mut [u8]) {
     put(1, 0, 9, table);
     let c = octets::generate_checksum(table);
-    put(1, octets::wide(c), 9, table);
+    put(1, u64::from(c), 9, table);
 }
 
-// The bytes of `piece` behind a table of n bytes; the length of both.
+// The bytes of `piece` behind a table of n bytes; the length of both, 0 where there is no room.
 fn append(table: &mut [u8], n: usize, piece: &[u8]) -> usize {
-    if table.len() < n {
+    if table.len() < n || table.len() - n < piece.len() {
         return 0;
     }
-    if table.len() - n < piece.len() {
-        return 0;
-    }
-    octets::put_slice(piece, &mut table[n..]);
     let m = n + piece.len();
+    table[n..m].copy_from_slice(piece);
     put(4, m as u64, 4, table);
-    mend(&mut table[0..m]);
+    mend(&mut table[..m]);
     m
 }
 
 fn run_appended(file: &[u8], list: &[u8], piece: &[u8]) {
     let mut table = huge_buffer();
     let a = encode::encode(file, &mut table);
-    let n = append(&mut table, a.length as usize, piece);
-    run_table(front(file, 0), list, front(&table, n));
+    let n = append(&mut table, a.unwrap_or(0), piece);
+    run_table(&[], list, front(&table, n));
 }
 
 // How many of the tables were read, and one number for their files.
@@ -142,201 +118,153 @@ struct Tally {
     mixed: u64,
 }
 
-fn told(right: bool) {
-    if right {
-        return;
+impl Tally {
+    // With the file that is read where v stands.
+    fn with(self, form: &[u8], v: u8) -> Tally {
+        Tally {
+            files: self.files.wrapping_add(1),
+            mixed: self.mixed % 0x1000000 * 31 + mixed(form) % 0x1000000 + u64::from(v),
+        }
     }
-    text(b"  ANOTHER TABLE\n");
-}
 
-fn tallied(form: &[u8], table: &[u8], v: u8, spare: &mut [u8], t: Tally) -> Tally {
-    told(gives(form, table, spare));
-    Tally {
-        files: wrapping_add_u64(t.files, 1),
-        mixed: t.mixed % 0x1000000 * 31 + mixed(form) % 0x1000000 + octets::wide(v),
+    fn tell(self, i: usize) {
+        text(b"  at ");
+        decimal(i as u64);
+        text(b": ");
+        decimal(self.files);
+        text(b" read, mixed ");
+        decimal(self.mixed);
+        text(b"\n");
     }
-}
-
-fn set(table: &mut [u8], i: usize, v: u8) {
-    if table.len() <= i {
-        return;
-    }
-    table[i] = v;
 }
 
 fn change(table: &mut [u8], i: usize, v: u8) {
-    set(table, i, v);
+    if let Some(b) = table.get_mut(i) {
+        *b = v;
+    }
     mend(table);
 }
 
-// The table with v at i.
-fn tried(
-    list: &[u8],
-    table: &mut [u8],
-    i: usize,
-    v: u8,
-    out: &mut [u8],
-    spare: &mut [u8],
-    t: Tally,
-) -> Tally {
-    change(table, i, v);
+// The length of the file that a changed table is read as; a refusal must be 22.
+fn read_changed(list: &[u8], table: &[u8], out: &mut [u8]) -> Option<usize> {
     let a = reader::read(list, table, out);
-    if a.number == 0 {
-        return tallied(front(out, a.length as usize), table, v, spare, t);
-    }
-    if a.number != 22 {
+    if let Err(f) = a
+        && f.refusal != Refusal::NoFile
+    {
         text(b"  ANOTHER NUMBER\n");
     }
-    t
-}
-
-fn tell(i: usize, t: Tally) {
-    text(b"  at ");
-    decimal(i as u64);
-    text(b": ");
-    decimal(t.files);
-    text(b" read, mixed ");
-    decimal(t.mixed);
-    text(b"\n");
+    a.ok()
 }
 
 // Each other value at i, and then the old one.
 fn sweep_at(list: &[u8], table: &mut [u8], i: usize, out: &mut [u8], spare: &mut [u8]) {
-    let mut t = Tally { files: 0, mixed: 0 };
-    let mut v = byte_at(table, i);
-    let mut k: u64 = 0;
-    while k < 255 {
-        v = wrapping_add_u8(v, 1);
-        t = tried(list, table, i, v, out, spare, t);
-        k = k + 1;
+    let old = table.get(i).copied().unwrap_or(0);
+    let mut tally = Tally { files: 0, mixed: 0 };
+    for step in 1..=u8::MAX {
+        let v = old.wrapping_add(step);
+        change(table, i, v);
+        if let Some(n) = read_changed(list, table, out) {
+            if !gives(front(out, n), table, spare) {
+                text(b"  ANOTHER TABLE\n");
+            }
+            tally = tally.with(front(out, n), v);
+        }
     }
-    change(table, i, wrapping_add_u8(v, 1));
-    tell(i, t);
+    change(table, i, old);
+    tally.tell(i);
 }
 
 fn sweep(list: &[u8], table: &mut [u8], out: &mut [u8], spare: &mut [u8]) {
-    let mut i = 36;
-    while i < table.len() {
+    for i in 36..table.len() {
         sweep_at(list, table, i, out, spare);
-        i = i + 1;
     }
 }
 
 fn run_sweep(file: &[u8], list: &[u8]) {
     let mut table = io::buffer();
     let a = encode::encode(file, &mut table);
-    let n = a.length as usize;
-    if table.len() < n {
-        return;
+    if let Some(table) = table.get_mut(..a.unwrap_or(0)) {
+        text(b"\n");
+        let mut out = io::buffer();
+        let mut spare = io::buffer();
+        sweep(list, table, &mut out, &mut spare);
     }
-    text(b"\n");
-    let mut out = io::buffer();
-    let mut spare = io::buffer();
-    sweep(list, &mut table[0..n], &mut out, &mut spare);
 }
 
 // ── A line each
 
 // What stands behind the header of a file without records and arities.
 fn pool_of(file: &[u8]) -> &[u8] {
-    if file.len() < 60 {
-        return file;
-    }
-    &file[60..]
+    file.get(60..).unwrap_or(file)
 }
 
-// The arity list of the file that is described, in a file of its own: its entries and the text of its pool.
-fn put_list(b: &[u8], from: usize, to: usize, list: &mut [u8]) -> usize {
-    let one = mark_at(b, b';', from, to);
-    let two = mark_at(b, b';', wrapping_add_usize(one, 1), to);
-    let end = mark_at(b, b';', wrapping_add_usize(two, 1), to);
-    put_file(b, one, end, list)
+// Where the part of a description ends that starts at `from`.
+fn part_end(description: &[u8], from: usize) -> usize {
+    description
+        .iter()
+        .skip(from)
+        .position(|b| *b == b';')
+        .map_or(description.len(), |n| from.wrapping_add(n))
 }
 
-fn plain(b: &[u8], from: usize, to: usize) {
+// The second and the third part of a description: its arity entries, and the text of its pool.
+fn list_of(description: &[u8]) -> &[u8] {
+    let records = part_end(description, 0);
+    let entries = part_end(description, records.wrapping_add(1));
+    let text = part_end(description, entries.wrapping_add(1));
+    description.get(records..text).unwrap_or(&[])
+}
+
+fn plain(description: &[u8]) {
     let mut file = huge_buffer();
-    let n = put_file(b, from, to, &mut file);
+    let n = put_file(description, &mut file);
     let mut list = io::large_buffer();
-    let k = put_list(b, from, to, &mut list);
+    let k = put_file(list_of(description), &mut list);
     run_file(front(&file, n), front(&list, k));
 }
 
-fn swept(b: &[u8], from: usize, mark: usize) {
+fn swept(description: &[u8]) {
     let mut file = io::large_buffer();
-    let n = put_file(b, from, mark, &mut file);
+    let n = put_file(description, &mut file);
     let mut list = io::large_buffer();
-    let k = put_list(b, from, mark, &mut list);
+    let k = put_file(list_of(description), &mut list);
     run_sweep(front(&file, n), front(&list, k));
 }
 
-fn appended(b: &[u8], from: usize, mark: usize, to: usize) {
+fn appended(description: &[u8], piece: &[u8]) {
     let mut file = huge_buffer();
-    let n = put_file(b, from, mark, &mut file);
+    let n = put_file(description, &mut file);
     let mut list = io::large_buffer();
-    let k = put_list(b, from, mark, &mut list);
-    let mut piece = io::large_buffer();
-    let m = put_file(b, wrapping_add_usize(mark, 1), to, &mut piece);
-    run_appended(front(&file, n), front(&list, k), pool_of(front(&piece, m)));
+    let k = put_file(list_of(description), &mut list);
+    let mut piece_file = io::large_buffer();
+    let m = put_file(piece, &mut piece_file);
+    run_appended(
+        front(&file, n),
+        front(&list, k),
+        pool_of(front(&piece_file, m)),
+    );
 }
 
-fn raw(b: &[u8], from: usize, mark: usize, to: usize) {
+fn raw(arities: &[u8], bytes: &[u8]) {
     let mut list = io::large_buffer();
-    let k = put_file(b, from, mark, &mut list);
+    let k = put_file(arities, &mut list);
     let mut table = io::large_buffer();
-    let n = put_file(b, wrapping_add_usize(mark, 1), to, &mut table);
-    run_table(front(&list, 0), front(&list, k), pool_of(front(&table, n)));
+    let n = put_file(bytes, &mut table);
+    run_table(&[], front(&list, k), pool_of(front(&table, n)));
 }
 
-fn case(b: &[u8], from: usize, to: usize) {
-    let bar = mark_at(b, b'|', from, to);
-    if bar < to {
-        appended(b, from, bar, to);
-        return;
-    }
-    let bang = mark_at(b, b'!', from, to);
-    if bang < to {
-        raw(b, from, bang, to);
-        return;
-    }
-    let wave = mark_at(b, b'~', from, to);
-    if wave < to {
-        swept(b, from, wave);
-        return;
-    }
-    plain(b, from, to);
-}
-
-// A line without = is a heading.
-fn line(b: &[u8], from: usize, to: usize) {
-    let end = name_end(b, from, to);
-    name(b, from, end);
-    if end < to {
-        case(b, end, to);
-        return;
-    }
-    text(b"\n");
-}
-
-// Where the line starts that the byte at i does not end.
-fn line_start(b: &[u8], from: usize, i: usize) -> usize {
-    if byte_at(b, i) == b'\n' {
-        line(b, from, i);
-        return wrapping_add_usize(i, 1);
-    }
-    from
-}
-
-fn lines(b: &[u8], n: usize) {
-    let mut from = 0;
-    let mut i = 0;
-    while i < n {
-        from = line_start(b, from, i);
-        i = i + 1;
+fn run(line: &[u8]) {
+    if let Some((description, piece)) = split_once(line, b'|') {
+        appended(description, piece);
+    } else if let Some((arities, bytes)) = split_once(line, b'!') {
+        raw(arities, bytes);
+    } else if let Some((description, _)) = split_once(line, b'~') {
+        swept(description);
+    } else {
+        plain(line);
     }
 }
 
 fn main() {
-    let mut input = io::large_buffer();
-    let n = io::read_full(STDIN_FILENO, &mut input);
-    lines(&input, n);
+    each_line(run);
 }

@@ -1,8 +1,8 @@
 -- How the code meets the reading of a table: what its walks tell, the file in the parts in which it is written, and the answers.
 -- Assumes nothing.
-use Rattle.std.specs.Prelude.{◌≡◌, Bool, ◌||◌, ℕ, ◌+◌, ◌-◌, ◌*◌, ◌/◌, ◌≤◌, ◌<◌, eqb, ltb, take, drop}
+use Rattle.std.specs.Prelude.{◌≡◌, Bool, ◌||◌, ℕ, ◌+◌, ◌-◌, ◌*◌, ◌/◌, ◌≤◌, ◌<◌, eqb, ltb, take, drop, Result, Ok, Err, IfSome, Option as Found, Some, None}
 use Rattle.std.proofs.Math.Path.{refl, ap}
-use Rattle.std.proofs.Common.{sym, ◌∙◌, true≢false, arith, ltb→lt, length-drop, length-take, drop_of_length-le, take_at, drop_at, drop-drop, take_all, length-take-le}
+use Rattle.std.proofs.Common.{sym, ◌∙◌, arith, length-drop, length-take, drop_of_length-le, take_at, drop_at, drop-drop, take_all, length-take-le}
 use Rattle.std.proofs.Math.Bool.{true, false, not, cond}
 use Rattle.std.proofs.Math.Option.{none, some, none-ne-some, some-injective}
 use mathlib.Core.List as lists
@@ -11,23 +11,26 @@ use Rattle.std.proofs.Math.ListN.{length, length-append}
 use borrow.Author.Tests.{eq-eqb, ne_eqb, lt-ltb, le-ltb, le-leb, lt-leb, ltb-false, eqb-true, not-false}
 use Rattle.octets.specs.Bytes.{le_at, laid, ◌>>=◌}
 use Rattle.octets.specs.Sum.{byte_sum}
-use Rattle.octets.specs.Tests.{or_none, true_test}
+use Rattle.octets.specs.Tests.{or_none}
 use Rattle.octets.specs.Filling.{Wrote, wrote-length, Writing, writing_start, lent, returned}
 use Rattle.octets.specs.Reading.{Digits}
 use Rattle.grammar.specs.declared.Place.TheVariants.{InList}
 use Rattle.grammar.specs.Forest.{Forest, flatten}
 use Rattle.tree.specs.Read.{list, read, parse}
 use Rattle.tree.proofs.ExactLaws.{parse-only}
-use Rattle.term.specs.declared.Layout.{Layout}
 use Rattle.term.specs.File.{record_count, layout_of}
 use Rattle.arity.specs.Arity.{arities_of, arities_fit, args_of}
-use Rattle.checker.specs.Refusal.{part, arity_section, pool_section}
+use Rattle.checker.specs.Refusal.{arity_section, pool_section}
 use Rattle.normal.specs.File.{records_bytes, term_texts, arities_bytes, arity_texts, header_bytes, file_of}
 use Rattle.normal.specs.FileLaws.{file-length}
 use Rattle.normal.specs.SectionLaws.{records-length, entries_length}
 use Rattle.normal.specs.Writable.{Every, TermSizes}
 use Rattle.normal.specs.WritableLaws.{fits-writable}
-use Rattle.encode.specs.declared.Answer.{Answer}
+use Rattle.refusal.specs.declared.Fault.{Fault}
+use Rattle.refusal.specs.declared.Refusal.{Refusal}
+use Rattle.refusal.specs.declared.Refusal.TheVariants.{NoFile, OutputShort, TooMany, Arities}
+use Rattle.refusal.specs.Number.{number}
+use Rattle.refusal.specs.NumberLaws.{number-positive}
 use Rattle.encode.specs.Encode.{refused_by, handed, described, Answered}
 use Rattle.whole.specs.Whole.{list_of, identity_of, tree_in, read_in, read_of, Framed}
 use Rattle.whole.specs.ListLaws.{sizes, texts-short, arities_callable, arities-count, layout-room}
@@ -91,33 +94,31 @@ list-start a p first room = writing_start first (record { is = rw append-nil ref
 
 -- ── What a walk tells: the terms, or that there are none
 module _ {a p t : List ℕ} (y : Ready a p t) where
-  pub ready_walk : Walkable t a p 36
-  ready_walk = record { within = y.framed.least; most = y.framed.most; fit = y.fit }
+  pub ready_walk : Walkable t 36
+  ready_walk = record { within = y.framed.least; most = y.framed.most }
 
-module _ (a p t : List ℕ) {first out : List ℕ} {w : Walk}
-    (k : Walks forest (list (read (args_of a p) 64) (λ _. InList) (length (drop 36 t)) 0 (drop 36 t)) t 36 0 first out w × Spans 36 w) where
-  told : w.ok ≡ true → (f : Forest) × (terms a p t ≡ some f) × (w.records ≡ length (flatten f)) × (w.texts ≡ length (term_texts (flatten f))) × Left (flatten f) t 0 first out
+abbrev Walked : (a p t first out : List ℕ) → Found Walk → Type 0
+Walked a p t first out o = Walks forest (list (read (args_of a p) 64) (λ _. InList) (length (drop 36 t)) 0 (drop 36 t)) t 36 0 first out o × IfSome o (Spans 36)
+
+module _ (a p t : List ℕ) {first out : List ℕ} where
+  untold : Walked a p t first out None → terms a p t ≡ none
   unfolding parse ◌>>=◌
-  told o = let r = k.0.good o in (r.value, rw r.is refl, r.records, r.texts, r.left)
+  untold k = rw k.0.tells refl
 
-  untold : w.ok ≡ false → terms a p t ≡ none
+  told : {w : Walk} → Walked a p t first out (Some w)
+      → (f : Forest) × (terms a p t ≡ some f) × (w.records ≡ length (flatten f)) × (w.texts ≡ length (term_texts (flatten f))) × Left (flatten f) t 0 first out
   unfolding parse ◌>>=◌
-  untold o = rw (k.0.bad o) refl
+  told k = let r = k.0.tells in (r.value, rw r.is refl, r.records, r.texts, r.left)
 
-  pub walk-held : length t ≤ 268435455 → not w.ok || ltb 65536 w.records ≡ false → Held a p t w.records w.texts
-  walk-held m h =
-      let (b, c) = or_none (not w.ok) (ltb 65536 w.records) h in
-      let o = not-false w.ok b in
-      let (f, e, n, x, l) = told o in
-      record { forest = f; is = e; counted = n; texted = x; few = ltb-false 65536 w.records c; short = omega (arith, k.1.short o, (k.0.good o).high) }
+  pub walk-held : {w : Walk} → Walked a p t first out (Some w) → length t ≤ 268435455 → w.records ≤ 65536 → Held a p t w.records w.texts
+  walk-held k m h =
+      let (f, e, n, x, l) = told k in
+      record { forest = f; is = e; counted = n; texted = x; few = h; short = omega (arith, k.1.short, k.0.tells.high) }
 
   -- a second walk finds them again
-  pub walk-left : {n texts : ℕ} (h : Held a p t n texts) → Left (flatten h.forest) t 0 first out
-  walk-left h = by w.ok refl
-    where
-      by : (o : Bool) → w.ok ≡ o → Left (flatten h.forest) t 0 first out
-      by false o = absurd (none-ne-some h.forest (sym (untold o) ∙ h.is))
-      by true o = let (f, e, n, x, l) = told o in rw (some-injective h.forest f (sym h.is ∙ e)) l
+  pub walk-left : (o : Found Walk) → Walked a p t first out o → {n texts : ℕ} (h : Held a p t n texts) → Left (flatten h.forest) t 0 first out
+  walk-left None k h = absurd (none-ne-some h.forest (sym (untold k) ∙ h.is))
+  walk-left (Some w) k h = let (f, e, n, x, l) = told k in rw (some-injective h.forest f (sym h.is ∙ e)) l
 
 -- ── The body
 module _ {a p t : List ℕ} {n names texts : ℕ} (y : Ready a p t) (h : Held a p t n texts) (d : names ≡ length (arity_texts (arities_of a p))) where
@@ -225,28 +226,30 @@ tree_some : (a p t : List ℕ) (f : Forest) → terms a p t ≡ some f → lengt
 unfolding tree_in args_of
 tree_some a p t f e h = rw (e, le-leb (length (flatten f)) 65536 h) refl
 
-module _ (a p t : List ℕ) (out : List ℕ) where
-  refused-by : {r : Answer} → tree_in (arities_of a p) t ≡ none → r ≡ record { number = 22; index = 0; length = 0 } → Answered r out (read_sections a p t out)
-  unfolding read_sections read_in refused_by
-  refused-by e z = rw (e, z) (record { answer = refl; output = refl })
+-- a refusal that is of no record
+abbrev pub fault : Refusal → Fault
+fault r = record { refusal = r; index = 0 }
 
-  pub sections-none : {r : Answer} {first left : List ℕ} {w : Walk} → Walks forest (list (read (args_of a p) 64) (λ _. InList) (length (drop 36 t)) 0 (drop 36 t)) t 36 0 first left w × Spans 36 w
-      → {c : Bool} → c ≡ (not w.ok || ltb 65536 w.records) → c ≡ true → r ≡ record { number = 22; index = 0; length = 0 } → Answered r out (read_sections a p t out)
-  sections-none {r} {w = w} k d h z = by w.ok refl (ltb 65536 w.records) refl (sym d ∙ h)
-    where
-      by : (o : Bool) → w.ok ≡ o → (m : Bool) → ltb 65536 w.records ≡ m → not o || m ≡ true → Answered r out (read_sections a p t out)
-      by false o m n h = refused-by (tree-none a p t (untold a p t k o)) z
-      by true o true n h = let (f, e, c, x, l) = told a p t k o in refused-by (tree_many a p t f e (omega (arith, ltb→lt 65536 w.records (true_test (ltb 65536 w.records) n)))) z
-      by true o false n h = absurd (true≢false (sym h))
+module _ (a p t : List ℕ) (out : List ℕ) where
+  refused-by : tree_in (arities_of a p) t ≡ none → Answered (Err (fault NoFile)) out (read_sections a p t out)
+  unfolding read_sections read_in refused_by
+  refused-by e = rw e (record { answer = refl; output = refl })
+
+  module _ {first left : List ℕ} where
+    pub sections-none : Walked a p t first left None → Answered (Err (fault NoFile)) out (read_sections a p t out)
+    sections-none k = refused-by (tree-none a p t (untold a p t k))
+
+    pub sections-many : {w : Walk} → Walked a p t first left (Some w) → 65536 < w.records → Answered (Err (fault NoFile)) out (read_sections a p t out)
+    sections-many k h = let (f, e, c, x, l) = told a p t k in refused-by (tree_many a p t f e (omega arith))
 
   module _ {n names texts : ℕ} (y : Ready a p t) (h : Held a p t n texts) (d : names ≡ length (arity_texts (arities_of a p))) where
     sections-are : read_sections a p t out ≡ handed (read_file a p t) out
     unfolding read_sections read_in read_file described
     sections-are = rw (tree_some a p t h.forest h.is (omega (arith, h.few, h.counted)), h.is) refl
 
-    pub sections-short : {r : Answer} → length out < 60 + 24 * n + 8 * (length a / 8) + (names + texts) → r ≡ record { number = 14; index = 0; length = 0 } → Answered r out (read_sections a p t out)
+    pub sections-short : length out < 60 + 24 * n + 8 * (length a / 8) + (names + texts) → Answered (Err (fault OutputShort)) out (read_sections a p t out)
     unfolding handed refused_by
-    sections-short s z = rw (sections-are, z, lt-ltb (length out) (length (read_file a p t)) (omega (arith, file-size y h d))) (record { answer = refl; output = refl })
+    sections-short s = rw (sections-are, lt-ltb (length out) (length (read_file a p t)) (omega (arith, file-size y h d))) (record { answer = refl; output = refl })
 
     pub sections-room : 60 + 24 * n + 8 * (length a / 8) + (names + texts) ≤ length out → Room (read_file a p t) a p t n names texts out
     sections-room s = record { held = h; named = d; room = omega (arith, file-size y h d) }
@@ -254,58 +257,53 @@ module _ (a p t : List ℕ) (out : List ℕ) where
     pub sections-size : 60 + 24 * n + 8 * (length a / 8) + (names + texts) ≤ 600000000
     sections-size = omega (arith, names_most y h d, h.few, h.short, y.few)
 
-    pub sections-done : {r : Answer} → 60 + 24 * n + 8 * (length a / 8) + (names + texts) ≤ length out → {ys : List ℕ} {k : ℕ} → Wrote (read_file a p t) out ys k
-        → r ≡ record { number = 0; index = 0; length = k } → Answered r ys (read_sections a p t out)
+    pub sections-done : 60 + 24 * n + 8 * (length a / 8) + (names + texts) ≤ length out → {ys : List ℕ} {k : ℕ} → Wrote (read_file a p t) out ys k
+        → Answered (Ok k) ys (read_sections a p t out)
     unfolding handed
-    sections-done s w z = rw (sections-are, z, le-ltb (length out) (length (read_file a p t)) (omega (arith, file-size y h d)), w.count) (record { answer = refl; output = w.is })
+    sections-done s w = rw (sections-are, le-ltb (length out) (length (read_file a p t)) (omega (arith, file-size y h d)), w.count) (record { answer = refl; output = w.is })
 
 -- ── Before them: 1, 2, 3 of the arity file; 20, 12, 21 of the table
-module _ (f t out : List ℕ) {l : Layout} (e : l ≡ layout_of f) where
-  pub read_unlaid : {r : Answer} → (l.number ≡ 0 → ⊥) → r ≡ record { number = l.number; index = 0; length = 0 } → Answered r out (read_of f t out)
+module _ (f t out : List ℕ) where
+  pub read_unlaid : {e : Refusal} → number e ≡ (layout_of f).number → Answered (Err (fault e)) out (read_of f t out)
   unfolding read_of refused_by
-  read_unlaid z a = rw (a, e) (rw (ne_eqb (layout_of f).number 0 (rw e at z)) (record { answer = refl; output = refl }))
+  read_unlaid {e} h =
+      rw (ne_eqb (layout_of f).number 0 (λ z. omega (arith, h, number-positive e)), ← h) (record { answer = refl; output = refl })
 
-  module _ (z : l.number ≡ 0) {x : ℕ} (d : Digits f 4 4 x) where
-    laid_out_lem : (layout_of f).number ≡ 0
-    laid_out_lem = rw e at z
-
-    pub read-records : {r : Answer} → (x ≡ 0 → ⊥) → r ≡ record { number = 2; index = 0; length = 0 } → Answered r out (read_of f t out)
+  module _ (z : (layout_of f).number ≡ 0) {x : ℕ} (d : Digits f 4 4 x) where
+    pub read-records : (x ≡ 0 → ⊥) → Answered (Err (fault TooMany)) out (read_of f t out)
     unfolding read_of refused_by
-    read-records n a = rw (a, laid_out_lem, ne_eqb (record_count f) 0 (λ q. n (d.is ∙ q))) (record { answer = refl; output = refl })
+    read-records n = rw (z, ne_eqb (record_count f) 0 (λ q. n (d.is ∙ q))) (record { answer = refl; output = refl })
 
-    module _ (n : x ≡ 0) {b : Bool} (g : b ≡ arities_fit (part f l.arities l.pool) (part f l.pool (length f))) where
-      fit_is : arities_fit (arity_section f) (pool_section f) ≡ b
-      fit_is = sym (rw e at g)
-
-      pub read_unfit : {r : Answer} → not b ≡ true → r ≡ record { number = 3; index = 0; length = 0 } → Answered r out (read_of f t out)
+    module _ (n : x ≡ 0) where
+      pub read_unfit : arities_fit (arity_section f) (pool_section f) ≡ false → Answered (Err (fault Arities)) out (read_of f t out)
       unfolding read_of refused_by
-      read_unfit h a = rw (a, laid_out_lem, eq-eqb (record_count f) 0 (sym d.is ∙ n), fit_is, h) (record { answer = refl; output = refl })
+      read_unfit h = rw (z, eq-eqb (record_count f) 0 (sym d.is ∙ n), h) (record { answer = refl; output = refl })
 
-      module _ (h : not b ≡ false) {m : ℕ} (q : m ≡ table_number t) where
-        pub read_unframed : {r : Answer} → (m ≡ 0 → ⊥) → r ≡ record { number = m; index = 0; length = 0 } → Answered r out (read_of f t out)
+      module _ (h : arities_fit (arity_section f) (pool_section f) ≡ true) where
+        pub read_unframed : {e : Refusal} → number e ≡ table_number t → Answered (Err (fault e)) out (read_of f t out)
         unfolding read_of refused_by table_number
-        read_unframed {r} w a =
-            rw (laid_out_lem, eq-eqb (record_count f) 0 (sym d.is ∙ n), fit_is, h)
+        read_unframed {e} q =
+            rw (z, eq-eqb (record_count f) 0 (sym d.is ∙ n), h)
             (by (ltb (length t) 36 || not (eqb (le_at 4 t 4) (length t))) (ltb 268435455 (length t)) (not (eqb (byte_sum t) 0)) q)
           where
-            by : (u v s : Bool) → m ≡ cond u 20 (cond v 12 (cond s 21 0))
-                → Answered r out (cond u (refused_by 20 0 out) (cond v (refused_by 12 0 out) (cond s (refused_by 21 0 out) (read_in (list_of f) t (tree_in (list_of f) t) out))))
-            by true v s k = record { answer = a ∙ ap (λ i. record { number = i; index = 0; length = 0 }) k; output = refl }
-            by false true s k = record { answer = a ∙ ap (λ i. record { number = i; index = 0; length = 0 }) k; output = refl }
-            by false false true k = record { answer = a ∙ ap (λ i. record { number = i; index = 0; length = 0 }) k; output = refl }
-            by false false false k = absurd (w k)
+            by : (u v s : Bool) → number e ≡ cond u 20 (cond v 12 (cond s 21 0))
+                → Answered (Err (fault e)) out (cond u (refused_by 20 0 out) (cond v (refused_by 12 0 out) (cond s (refused_by 21 0 out) (read_in (list_of f) t (tree_in (list_of f) t) out))))
+            by true v s k = record { answer = ap (λ i. record { number = i; index = 0; length = 0 }) k; output = refl }
+            by false true s k = record { answer = ap (λ i. record { number = i; index = 0; length = 0 }) k; output = refl }
+            by false false true k = record { answer = ap (λ i. record { number = i; index = 0; length = 0 }) k; output = refl }
+            by false false false k = absurd (omega (arith, k, number-positive e))
 
-        module _ (w : m ≡ 0) where
-          pub read_ready : Ready (part f l.arities l.pool) (part f l.pool (length f)) t
-          read_ready =
-              rw e (record {
-                framed = table-framed t (sym q ∙ w);
-                fit = fit_is ∙ not-false b h;
-                few = omega (arith, length-take ((layout_of f).pool - (layout_of f).arities) (drop (layout_of f).arities f), (layout-room f laid_out_lem).1);
-              })
+        module _ (w : table_number t ≡ 0) where
+          pub read_ready : Ready (arity_section f) (pool_section f) t
+          read_ready = record {
+            framed = table-framed t w;
+            fit = h;
+            few = omega (arith, length-take ((layout_of f).pool - (layout_of f).arities) (drop (layout_of f).arities f), (layout-room f z).1);
+          }
 
-          pub read-on : {r : Answer} {left : List ℕ} → Answered r left (read_sections (part f l.arities l.pool) (part f l.pool (length f)) t out) → Answered r left (read_of f t out)
+          pub read-on : {r : Result ℕ Fault} {left : List ℕ} → Answered r left (read_sections (arity_section f) (pool_section f) t out) → Answered r left (read_of f t out)
           unfolding read_of read_sections list_of
           read-on k =
-              let y = table-framed t (sym q ∙ w) in
-              rw (laid_out_lem, eq-eqb (record_count f) 0 (sym d.is ∙ n), fit_is, h, le-ltb (length t) 36 y.least, eq-eqb (le_at 4 t 4) (length t) y.own, le-ltb 268435455 (length t) y.most, eq-eqb (byte_sum t) 0 y.sum) (rw e at k)
+              let y = table-framed t w in
+              rw (z, eq-eqb (record_count f) 0 (sym d.is ∙ n), h)
+              (rw (le-ltb (length t) 36 y.least, eq-eqb (le_at 4 t 4) (length t) y.own, le-ltb 268435455 (length t) y.most, eq-eqb (byte_sum t) 0 y.sum) k)

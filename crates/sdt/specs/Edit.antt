@@ -1,12 +1,28 @@
 -- The edits of a growing table: which are refused, with what number, and what is left in the record and in the buffer.
 -- Document 01, "The growing table" and "Refusal numbers" (20, 23, 12, 14, in this order). `Sdt` of the crate.
 -- Assumes nothing.
-use Rattle.std.specs.Prelude.{Bool, ◌&&◌, ◌||◌, not, cond, true, List, ◌≡◌, ℕ, ◌+◌, eqb, leb, ltb, length, take, get_or}
+use Rattle.std.specs.Prelude.{Bool, ◌&&◌, ◌||◌, not, cond, true, List, ◌≡◌, ℕ, ◌+◌, eqb, leb, ltb, length, take, get_or, Result, Ok, Err}
 use Rattle.octets.specs.Bytes.{le_at, laid}
+use Rattle.octets.specs.Sum.{byte_sum}
+use Rattle.refusal.specs.declared.Refusal.{Refusal}
+use Rattle.refusal.specs.Number.{number}
 use Rattle.sdt.specs.Table.{new_table, appended, overwritten, sealed}
 use Rattle.sdt.specs.declared.Sdt.{Sdt}
-use Rattle.sdt.specs.declared.Edit.{Edit}
-use Rattle.octets.specs.Sum.{byte_sum}
+
+-- an answer: 0 or the refusal's number, and the record as it is left
+pub record Edit : Type 0 where
+  pub number : ℕ
+  pub table : Sdt
+
+-- the number of a result
+abbrev pub number_said : {A : Type 0} → Result A Refusal → ℕ
+number_said (Ok a) = 0
+number_said (Err e) = number e
+
+-- and the record t as it is left: a refusal leaves it as it was
+abbrev pub edit_said : Sdt → Result Sdt Refusal → Edit
+edit_said t (Ok u) = record { number = 0; table = u }
+edit_said t (Err e) = record { number = number e; table = t }
 
 -- the answer's number, and the record and the buffer as they are left
 pub record Outcome : Type 0 where

@@ -2,38 +2,52 @@
 // Each line is a call, its number, the record and every byte of the buffer as they are left.
 #![tactic(auto)]
 
-ghost use Rattle.sdt.specs.Edit.{new_of, append_of, write_of, Left};
-
-use sdt::{Edit, Sdt};
+use refusal::Refusal;
+use sdt::Sdt;
 
 // Standard output.
 const STDOUT_FILENO: i32 = 1;
 
-// ── A record of its own, lent to the call
+const IDENTITY: &[u8; 31] =
+    b"DSDT\x02\x00\x00\x00\x00\x00\x00\x00\x00\x00\x00\x00\x00\x00\x00\x00\x00\x00\x00\x00\x00\x00\x00\x00\x00\x00\x00";
 
-fn new(t: Sdt, identity: &[u8; 31], length: u32, buffer: &mut [u8]) -> Edit
-    ensures { Left result buffer.new (new_of identity.now length t buffer.old) }
-{
-    let mut u = t;
-    let number = sdt::new(&mut u, identity, length, buffer);
-    Edit { number, table: u }
-}
+// A record that no table has: a refused edit has to leave it as it is.
+const NO_TABLE: Sdt = Sdt {
+    length: 7,
+    checksum: 9,
+};
 
-fn append(t: Sdt, buffer: &mut [u8], piece: &[u8]) -> Edit
-    ensures { Left result buffer.new (append_of t buffer.old piece.now) }
-{
-    let mut u = t;
-    let number = sdt::append(&mut u, buffer, piece);
-    Edit { number, table: u }
-}
+// A piece, and the offset at which it is written.
+type Write = (u64, &'static [u8]);
 
-fn write(t: Sdt, buffer: &mut [u8], offset: u64, piece: &[u8]) -> Edit
-    ensures { Left result buffer.new (write_of t buffer.old offset piece.now) }
-{
-    let mut u = t;
-    let number = sdt::write(&mut u, buffer, offset, piece);
-    Edit { number, table: u }
-}
+static INSIDE: [Write; 5] = [
+    (37, b"BAR_"),
+    (0, b"SSDT"),
+    (8, b"\x01"),
+    (10, b"\x55"),
+    (41, b"\xFF"),
+];
+
+static OUTSIDE: [Write; 5] = [
+    (42, b"x"),
+    (40, b"xyz"),
+    (u64::MAX, b""),
+    (u64::MAX, b"x"),
+    (u64::MAX, b"xy"),
+];
+
+static ON_THE_SEAL: [Write; 8] = [
+    (4, b"x"),
+    (5, b"x"),
+    (6, b"x"),
+    (7, b"x"),
+    (9, b"x"),
+    (3, b"xy"),
+    (7, b"xy"),
+    (8, b"xy"),
+];
+
+static EMPTY: [Write; 5] = [(4, b""), (7, b""), (9, b""), (42, b""), (43, b"")];
 
 // ── A line
 
@@ -48,243 +62,139 @@ fn decimal(n: u64) {
 
 fn hex(b: u8) {
     text(b" ");
-    io::print_hex(STDOUT_FILENO, octets::wide(b), 2);
+    io::print_hex(STDOUT_FILENO, u64::from(b), 2);
 }
 
-fn bytes(b: &[u8]) {
-    let mut i = 0;
-    while i < b.len() {
-        hex(b[i]);
-        i = i + 1;
+// What an edit left.
+fn show(edit: Result<(), Refusal>, t: Sdt, b: &[u8]) {
+    let number = match edit {
+        Ok(()) => 0,
+        Err(refusal) => refusal.number(),
+    };
+    text(b":");
+    decimal(u64::from(number));
+    text(b", record");
+    decimal(u64::from(t.length));
+    hex(t.checksum);
+    text(b"\n ");
+    for x in b {
+        hex(*x);
     }
     text(b"\n");
 }
 
-// What an edit left; its record is for the next edit.
-fn show(e: Edit, b: &[u8]) -> Sdt {
-    let t = e.table;
-    text(b":");
-    decimal(e.number as u64);
-    text(b", record");
-    decimal(t.length as u64);
-    hex(t.checksum);
-    text(b"\n ");
-    bytes(b);
-    t
-}
-
-fn made(t: Sdt, length: u32, b: &mut [u8]) -> Sdt {
+fn made(t: &mut Sdt, b: &mut [u8], length: u32) {
     text(b"new of");
-    decimal(length as u64);
-    let e = new(
-        t,
-        b"DSDT\x02\x00\x00\x00\x00\x00\x00\x00\x00\x00\x00\x00\x00\x00\x00\x00\x00\x00\x00\x00\x00\x00\x00\x00\x00\x00\x00",
-        length,
-        b,
-    );
-    show(e, b)
+    decimal(u64::from(length));
+    let edit = t.new(IDENTITY, length, b);
+    show(edit, *t, b);
 }
 
-fn appended(t: Sdt, b: &mut [u8], piece: &[u8]) -> Sdt {
+fn appended(t: &mut Sdt, b: &mut [u8], piece: &[u8]) {
     text(b"append of");
     decimal(piece.len() as u64);
-    let e = append(t, b, piece);
-    show(e, b)
+    let edit = t.append(b, piece);
+    show(edit, *t, b);
 }
 
-fn written(t: Sdt, b: &mut [u8], offset: u64, piece: &[u8]) -> Sdt {
+fn written(t: &mut Sdt, b: &mut [u8], offset: u64, piece: &[u8]) {
     text(b"write at");
     decimal(offset);
     text(b" of");
     decimal(piece.len() as u64);
-    let e = write(t, b, offset, piece);
-    show(e, b)
+    let edit = t.write(b, offset, piece);
+    show(edit, *t, b);
+}
+
+fn all_written(t: &mut Sdt, b: &mut [u8], writes: &[Write]) {
+    for (offset, piece) in writes {
+        written(t, b, *offset, piece);
+    }
 }
 
 // ── The runs
 
-// A record that no table has: it has to be left as it is.
 fn new_refused(b: &mut [u8]) {
-    let t = Sdt {
-        length: 7,
-        checksum: 9,
-    };
-    made(t, 35, b);
-    made(t, 268435456, b);
-    made(t, 4294967295, b);
-    made(t, 49, b);
+    let mut t = NO_TABLE;
+    for length in [35, 268435456, 4294967295, 49] {
+        made(&mut t, b, length);
+    }
 }
 
-// Document 01's whole table, in three appends.
+// Document 01's whole table, in three appends; then nothing, and one byte more than there is room for.
 fn grown(b: &mut [u8]) -> Sdt {
-    let t = Sdt {
-        length: 7,
-        checksum: 9,
-    };
-    let t = made(t, 36, b);
-    let t = appended(t, b, b"\x08");
-    let t = appended(t, b, b"FOO_");
-    appended(t, b, b"\x01")
-}
-
-// Nothing, and one byte more than there is room for.
-fn appended_on(t: Sdt, b: &mut [u8]) -> Sdt {
-    let t = appended(t, b, b"");
-    appended(t, b, b"sevenxx")
-}
-
-fn inside(t: Sdt, b: &mut [u8]) -> Sdt {
-    let t = written(t, b, 37, b"BAR_");
-    let t = written(t, b, 0, b"SSDT");
-    written(t, b, 8, b"\x01")
-}
-
-fn inside_on(t: Sdt, b: &mut [u8]) -> Sdt {
-    let t = written(t, b, 10, b"\x55");
-    written(t, b, 41, b"\xFF")
-}
-
-fn outside(t: Sdt, b: &mut [u8]) -> Sdt {
-    let t = written(t, b, 42, b"x");
-    written(t, b, 40, b"xyz")
-}
-
-fn far_outside(t: Sdt, b: &mut [u8]) -> Sdt {
-    let t = written(t, b, 18446744073709551615, b"");
-    let t = written(t, b, 18446744073709551615, b"x");
-    written(t, b, 18446744073709551615, b"xy")
-}
-
-fn on_the_seal(t: Sdt, b: &mut [u8]) -> Sdt {
-    let t = written(t, b, 4, b"x");
-    let t = written(t, b, 5, b"x");
-    let t = written(t, b, 6, b"x");
-    written(t, b, 7, b"x")
-}
-
-fn across_the_seal(t: Sdt, b: &mut [u8]) -> Sdt {
-    let t = written(t, b, 9, b"x");
-    let t = written(t, b, 3, b"xy");
-    let t = written(t, b, 7, b"xy");
-    written(t, b, 8, b"xy")
-}
-
-fn empty(t: Sdt, b: &mut [u8]) -> Sdt {
-    let t = written(t, b, 4, b"");
-    let t = written(t, b, 7, b"");
-    written(t, b, 9, b"")
-}
-
-fn empty_on(t: Sdt, b: &mut [u8]) -> Sdt {
-    let t = written(t, b, 42, b"");
-    written(t, b, 43, b"")
+    let mut t = NO_TABLE;
+    made(&mut t, b, 36);
+    appended(&mut t, b, b"\x08");
+    appended(&mut t, b, b"FOO_");
+    appended(&mut t, b, b"\x01");
+    appended(&mut t, b, b"");
+    appended(&mut t, b, b"sevenxx");
+    t
 }
 
 fn poke(b: &mut [u8], x: u8) {
-    if 38 < b.len() {
-        b[38] = x;
+    if let Some(byte) = b.get_mut(38) {
+        *byte = x;
     }
 }
 
 // A byte was changed behind the record: an empty edit renews the checksum.
-fn renewed(t: Sdt, b: &mut [u8]) -> Sdt {
+fn renewed(t: &mut Sdt, b: &mut [u8]) {
     poke(b, 0x5A);
-    let t = appended(t, b, b"");
+    appended(t, b, b"");
     poke(b, 0xA5);
-    written(t, b, 4, b"")
+    written(t, b, 4, b"");
 }
 
-fn refused(t: Sdt, b: &mut [u8]) {
-    appended(t, b, b"x");
-    written(t, b, 18446744073709551615, b"x");
+fn refused(mut t: Sdt, b: &mut [u8]) {
+    appended(&mut t, b, b"x");
+    written(&mut t, b, u64::MAX, b"x");
 }
 
 // A record of another length, or of another checksum.
 fn unsound(t: Sdt, b: &mut [u8]) {
-    refused(
-        Sdt {
-            length: 35,
-            checksum: t.checksum,
-        },
-        b,
-    );
-    refused(
-        Sdt {
-            length: 41,
-            checksum: t.checksum,
-        },
-        b,
-    );
-    refused(
-        Sdt {
-            length: 49,
-            checksum: t.checksum,
-        },
-        b,
-    );
-    refused(
-        Sdt {
-            length: t.length,
-            checksum: 0,
-        },
-        b,
-    );
+    for length in [35, 41, 49] {
+        refused(Sdt { length, ..t }, b);
+    }
+    refused(Sdt { checksum: 0, ..t }, b);
 }
 
 fn short(b: &mut [u8]) {
-    let t = Sdt {
+    let mut t = Sdt {
         length: 36,
         checksum: 0xEE,
     };
     refused(t, b);
-    written(t, b, 0, b"");
-    made(t, 35, b);
-    made(t, 36, b);
+    written(&mut t, b, 0, b"");
+    made(&mut t, b, 35);
+    made(&mut t, b, 36);
 }
 
 // Zeros behind the header, and a buffer that is filled to its last byte.
-fn filled(b: &mut [u8]) -> Sdt {
-    let t = Sdt {
+fn filled(b: &mut [u8]) {
+    let mut t = Sdt {
         length: 0,
         checksum: 0,
     };
-    let t = made(t, 40, b);
-    let t = appended(t, b, b"nine byte");
-    appended(t, b, b"8 bytes.")
-}
-
-fn full(t: Sdt, b: &mut [u8]) {
-    let t = appended(t, b, b"");
-    let t = appended(t, b, b"x");
-    written(t, b, 47, b"!");
-}
-
-fn edited(t: Sdt, b: &mut [u8]) -> Sdt {
-    let t = appended_on(t, b);
-    let t = inside(t, b);
-    let t = inside_on(t, b);
-    let t = outside(t, b);
-    far_outside(t, b)
-}
-
-fn held(t: Sdt, b: &mut [u8]) {
-    let t = on_the_seal(t, b);
-    let t = across_the_seal(t, b);
-    let t = empty(t, b);
-    let t = empty_on(t, b);
-    let t = renewed(t, b);
-    unsound(t, b);
+    made(&mut t, b, 40);
+    appended(&mut t, b, b"nine byte");
+    appended(&mut t, b, b"8 bytes.");
+    appended(&mut t, b, b"");
+    appended(&mut t, b, b"x");
+    written(&mut t, b, 47, b"!");
 }
 
 fn main() {
-    let mut b: [u8; 48] = [0xEE; 48];
+    let mut b = [0xEE; 48];
     new_refused(&mut b);
-    let t = grown(&mut b);
-    let t = edited(t, &mut b);
-    held(t, &mut b);
-    let mut nine: [u8; 9] = [0xEE; 9];
-    short(&mut nine);
-    let mut other: [u8; 48] = [0xEE; 48];
-    let t = filled(&mut other);
-    full(t, &mut other);
+    let mut t = grown(&mut b);
+    all_written(&mut t, &mut b, &INSIDE);
+    all_written(&mut t, &mut b, &OUTSIDE);
+    all_written(&mut t, &mut b, &ON_THE_SEAL);
+    all_written(&mut t, &mut b, &EMPTY);
+    renewed(&mut t, &mut b);
+    unsound(t, &mut b);
+    short(&mut [0xEE; 9]);
+    filled(&mut [0xEE; 48]);
 }

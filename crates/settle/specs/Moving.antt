@@ -76,7 +76,7 @@ moving_start {table} {n} {pool} {first} {out} g =
     }
 
 module _ {table : List ℕ} {n pool first : ℕ} {before : List ℕ} {at j : ℕ} {out : List ℕ} (h : Moving table n pool first before at j out) where
-  pub moving_room : pool ≤ length out
+  moving_room : pool ≤ length out
   moving_room = omega (arith, h.given.room, h.len)
 
   pub moving_end : n ≤ j → out ≡ settled table n pool first before
@@ -118,11 +118,8 @@ module _ {table : List ℕ} {n pool first : ℕ} {before : List ℕ} {at j : ℕ
     unfolding moved
     record-next = rw next at h.front
 
-    pub moving_pool : pool + at + length (fetched table r) ≤ length out
+    moving_pool : pool + at + length (fetched table r) ≤ length out
     moving_pool = omega (arith, filling_left text-next, length-append (fetched table r) (fetched_all table (records_of before (j + 1) (n - (j + 1)))), h.given.room, h.len)
-
-    pub moving_small : first + at + length (fetched table r) < 4294967296
-    moving_small = omega (arith, filling_left text-next, length-append (fetched table r) (fetched_all table (records_of before (j + 1) (n - (j + 1)))), h.given.small)
 
     pub moving_fits : length (fetched table r) ≤ length (lent (pool + at) out)
     moving_fits = let m = moving_pool in simp (length-take, length-drop) (omega arith)
@@ -137,9 +134,6 @@ module _ {table : List ℕ} {n pool first : ℕ} {before : List ℕ} {at j : ℕ
 
       mid : returned (pool + at) out ys ≡ texted
       mid = returned-spliced (pool + at) (fetched table r) out moving_pool w
-
-      pub moving_place : 24 * j ≤ length (returned (pool + at) out ys)
-      moving_place = rw (mid, texted-length) (omega (arith, fits, moving_room))
 
       module _ {s : Record} (q : s ≡ placed r (first + at)) where
         pub moving_packs : length (packed s) ≤ length (lent (24 * j) (returned (pool + at) out ys))

@@ -3,35 +3,14 @@
 
 ghost use Rattle.std.specs.Prelude.{◌≡◌, ◌≤◌, length};
 ghost use Rattle.octets.specs.Filling.{Wrote};
-ghost use Rattle.walk.specs.Calls.{is_path_text};
 ghost use Rattle.settle.specs.Settle.{has_path, fetched, placed, settled, Settling};
-
-fn is_path_text(text: grammar::Text) -> bool
-    ensures { result ≡ is_path_text text }
-{
-    match text {
-        grammar::Text::Unused => false,
-        grammar::Text::PathText => true,
-        grammar::Text::SegmentText => false,
-        grammar::Text::Ascii => false,
-        grammar::Text::AnyBytes => false,
-        grammar::Text::EisaText => false,
-        grammar::Text::UuidText => false,
-        grammar::Text::DescriptorText => false,
-    }
-}
 
 // Whether the text of this kind is a path.
 fn has_path(kind: u64) -> bool
     ensures { result ≡ has_path kind }
 {
     let j = grammar::position_of(kind);
-    if 67 <= j {
-        return false;
-    }
-    let row = grammar::row_at(j);
-    let text = row.text;
-    is_path_text(text)
+    j < 67 && matches!(grammar::row_at(j).text, grammar::Text::PathText)
 }
 
 // The text of a record that says where it stands in the table.
@@ -51,14 +30,7 @@ fn placed_at(r: term::Record, at: u64) -> term::Record
     ensures { result ≡ placed r at }
 {
     let start = if r.len == 0 { 0 } else { at };
-    term::Record {
-        kind: r.kind,
-        a: r.a,
-        kids: r.kids,
-        x: r.x,
-        start,
-        len: r.len,
-    }
+    term::Record { start, ..r }
 }
 
 // Copies the texts of n records out of the table into the pool, one behind the other, and makes each record say where its text is now.
@@ -68,12 +40,10 @@ pub fn settle(table: &[u8], n: usize, pool: usize, first: u64, out: &mut [u8])
     ensures { out.new ≡ settled table.now n pool first out.old }
 {
     let mut at = 0;
-    let mut j = 0;
-    while j < n {
+    for j in 0..n {
         let r = term::record_at(&out[0..pool], j);
         let s = placed_at(r, first + at as u64);
-        at = at + put_text(table, r, &mut out[pool + at..]);
+        at += put_text(table, r, &mut out[pool + at..]);
         repack::put_record(s, &mut out[24 * j..]);
-        j = j + 1;
     }
 }

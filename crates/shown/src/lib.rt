@@ -1,8 +1,12 @@
-// What programs that run cases print: answers, bytes, names of lines. An output is filled before a call, and held behind its
-// length to what it was, so that a byte written past the length is seen.
+// What programs that run cases read and print: lines of names and descriptions; answers and bytes. An output is filled before a
+// call, and held behind its length to what it was, so that a byte written past the length is seen.
 #![tactic(auto)]
 
-use encode::Answer;
+use described::split_once;
+use refusal::Fault;
+
+// Standard input.
+const STDIN_FILENO: i32 = 0;
 
 // Standard output.
 const STDOUT_FILENO: i32 = 1;
@@ -15,76 +19,138 @@ pub fn decimal(n: u64) {
     io::print_decimal(STDOUT_FILENO, n);
 }
 
-// What stands in the output before a call.
-const BEFORE: u8 = 0xAA;
+// ── Lines
 
-pub fn fill(out: &mut [u8]) {
-    let mut i = 0;
-    while i < out.len() {
-        out[i] = BEFORE;
-        i = i + 1;
+// Prints a line's name, up to its =, and gives what stands behind; a line that names nothing is a heading.
+fn named(line: &[u8]) -> Option<&[u8]> {
+    match split_once(line, b'=') {
+        Some((name, description)) if !description.is_empty() => {
+            text(name);
+            text(b"=");
+            Some(description)
+        }
+        _ => {
+            text(line);
+            text(b"\n");
+            None
+        }
     }
 }
 
-// Whether the output from `from` on is as it was before the call.
-fn kept(out: &[u8], from: usize) -> bool {
-    let mut i = from;
-    while i < out.len() {
-        if out[i] != BEFORE {
+// Runs each description of standard input, a line each, behind its printed name.
+pub fn each_line<F: FnMut(&[u8])>(mut run: F)
+    requires { F.IsAlwaysCallable run }
+{
+    let mut input = io::large_buffer();
+    let n = io::read_full(STDIN_FILENO, &mut input);
+    for line in input[..n].split_inclusive(|b| *b == b'\n') {
+        if let Some(description) = line.strip_suffix(b"\n").and_then(named) {
+            run(description);
+        }
+    }
+}
+
+// ── A call
+
+// What calls answer: how many bytes they wrote, or the refusal.
+pub type Answer = Result<usize, Fault>;
+
+// What stands in the output before a call.
+const BEFORE: u8 = 0xAA;
+
+// Whether the output from `from` on is as it was before the call. Most of a run passes here, and `all` takes a quarter longer.
+fn is_kept(out: &[u8], from: usize) -> bool {
+    for b in out.get(from..).unwrap_or(&[]) {
+        if *b != BEFORE {
             return false;
         }
-        i = i + 1;
     }
     true
 }
 
-fn rest(out: &[u8], from: usize) {
-    if kept(out, from) {
-        text(b" bytes, the rest as it was\n");
-        return;
-    }
-    text(b" bytes, the rest CHANGED\n");
-}
-
-pub fn answer(a: Answer, out: &[u8]) {
+// The number and the record of a refusal; 0 and 0 where nothing is refused.
+pub fn verdict(refused: Option<Fault>) {
+    let (number, index) = refused.map_or((0, 0), |f| (f.refusal.number(), f.index));
     text(b" ");
-    decimal(a.number as u64);
+    decimal(u64::from(number));
     text(b" at ");
-    decimal(a.index);
-    text(b", ");
-    decimal(a.length);
-    rest(out, a.length as usize);
+    decimal(index);
 }
 
-fn bytes(b: &[u8]) {
-    let mut i = 0;
-    while i < b.len() {
-        text(b" ");
-        io::print_hex(STDOUT_FILENO, octets::wide(b[i]), 2);
-        i = i + 1;
+fn told(a: Answer, out: &[u8]) {
+    let n = a.unwrap_or(0);
+    verdict(a.err());
+    text(b", ");
+    decimal(n as u64);
+    if is_kept(out, n) {
+        text(b" bytes, the rest as it was\n");
+    } else {
+        text(b" bytes, the rest CHANGED\n");
     }
+}
+
+// Calls into the first n bytes of the output, and prints the answer; how many are written, where the call does not refuse.
+fn call_into<F: FnOnce(&mut [u8]) -> Answer>(n: usize, out: &mut [u8], call: F) -> Option<usize>
+    requires { F.IsAlwaysCallable call }
+{
+    out.fill(BEFORE);
+    let a = call(out.get_mut(..n)?);
+    told(a, out);
+    a.ok()
+}
+
+// Calls into the whole output.
+pub fn call<F: FnOnce(&mut [u8]) -> Answer>(out: &mut [u8], call: F) -> Option<usize>
+    requires { F.IsAlwaysCallable call }
+{
+    call_into(out.len(), out, call)
+}
+
+// The same call again, into n bytes.
+pub fn again<F: FnOnce(&mut [u8]) -> Answer>(n: usize, out: &mut [u8], call: F)
+    requires { F.IsAlwaysCallable call }
+{
+    if n <= out.len() {
+        text(b"  into ");
+        decimal(n as u64);
+        text(b":");
+        call_into(n, out, call);
+    }
+}
+
+// ── Bytes
+
+// What an answer left in an output: nothing where it refuses.
+pub fn written(a: Answer, out: &[u8]) -> &[u8] {
+    front(out, a.unwrap_or(0))
+}
+
+// The first n bytes, or all where there are fewer.
+pub fn front(b: &[u8], n: usize) -> &[u8] {
+    b.get(..n).unwrap_or(b)
 }
 
 // One number for bytes in their order.
 pub fn mixed(b: &[u8]) -> u64 {
-    let mut v: u64 = 0;
-    let mut i = 0;
-    while i < b.len() {
-        v = v % 0x1000000 * 31 + octets::wide(b[i]);
-        i = i + 1;
+    b.iter().fold(0, |v, b| v % 0x1000000 * 31 + u64::from(*b))
+}
+
+pub fn hexadecimal(b: &[u8]) {
+    for x in b {
+        text(b" ");
+        io::print_hex(STDOUT_FILENO, u64::from(*x), 2);
     }
-    v
 }
 
 // Of many bytes the first in hexadecimal, and one number for all.
 fn some_bytes(b: &[u8]) {
     text(b" ");
     if b.len() <= 256 {
-        bytes(b);
+        hexadecimal(b);
         text(b"\n");
         return;
     }
-    bytes(&b[0..64]);
+    hexadecimal(front(b, 64));
     text(b" ..\n  all of them mixed: ");
     decimal(mixed(b));
     text(b"\n");
@@ -92,33 +158,8 @@ fn some_bytes(b: &[u8]) {
 
 // The first n bytes of an output.
 pub fn bytes_in(out: &[u8], n: usize) {
-    if out.len() < n {
-        text(b"  longer than the output\n");
-        return;
+    match out.get(..n) {
+        Some(b) => some_bytes(b),
+        None => text(b"  longer than the output\n"),
     }
-    some_bytes(&out[0..n]);
-}
-
-// The first n bytes, or all where there are fewer.
-pub fn front(b: &[u8], n: usize) -> &[u8] {
-    if b.len() < n {
-        return b;
-    }
-    &b[0..n]
-}
-
-// Whether the first n bytes of b are those of s.
-pub fn holds(b: &[u8], n: usize, s: &[u8]) -> bool {
-    octets::both(n == s.len(), octets::begins_at(b, 0, s))
-}
-
-// The part of a line from `from` to `to`.
-pub fn name(b: &[u8], from: usize, to: usize) {
-    if b.len() < to {
-        return;
-    }
-    if to < from {
-        return;
-    }
-    text(&b[from..to]);
 }

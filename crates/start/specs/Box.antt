@@ -1,7 +1,8 @@
 -- Where a body starts and ends, as the code answers it that looks for its box: held to `unbox`, for whatever reads the body.
 -- Assumes nothing.
-use Rattle.std.specs.Prelude.{◌≡◌, Bool, ◌||◌, not, cond, List, [], ℕ, ◌+◌, ◌-◌, ◌≤◌, ◌<◌, eqb, length, take, drop}
-use Rattle.std.proofs.Math.Path.{refl, sym, ap₂}
+use Rattle.std.specs.Prelude.{◌≡◌, Bool, ◌||◌, not, cond, Some, None, List, [], ℕ, ◌+◌, ◌-◌, ◌≤◌, ◌<◌, eqb, length, take, drop}
+use Rattle.std.specs.Prelude as rust
+use Rattle.std.proofs.Math.Path.{refl, sym}
 use Rattle.std.proofs.Common.{ap, ◌∙◌, true≢false, arith, length-take, length-take-le, take-add, drop_at}
 use Rattle.std.proofs.Math.Bool.{true, false}
 use Rattle.std.proofs.Math.Option.{Option, none, some, none-ne-some, some-injective}
@@ -10,8 +11,6 @@ use Rattle.std.proofs.Math.Seq.{take-length, drop-drop}
 use Rattle.octets.specs.Bytes.{Reader, ◌>>=◌, need}
 use Rattle.octets.specs.Laws.{cut_at, cut_short}
 use Rattle.octets.specs.Reading.{Reads, got, got-none}
-use Rattle.octets.specs.declared.Num.{Num}
-use Rattle.octets.specs.declared.Num.TheVariants as num
 use Rattle.number.specs.Get.{get_pkg_length}
 use Rattle.grammar.specs.Forest.{nil}
 use Rattle.tree.specs.Read.{Body, unbox}
@@ -24,27 +23,27 @@ pub record Opened (boxed : Bool) (b : List ℕ) (at end start : ℕ) : Type 0 wh
   pub whole : boxed ≡ false → end ≡ length b
   pub is : (get : Reader Body) → unbox boxed get (drop at b) ≡ (get (drop start (take end b)) >>= λ v. need (not boxed || eqb (length v.1) 0) (some (v.0, cond boxed (drop end b) v.1)))
 
-unfoldable pub opens_at : Bool → List ℕ → ℕ → Num → Type 0
-opens_at boxed b at (num.Some end start) = Opened boxed b at end start
-opens_at boxed b at num.None = (get : Reader Body) → unbox boxed get (drop at b) ≡ none
+unfoldable pub opens_at : Bool → List ℕ → ℕ → rust.Option (ℕ × ℕ) → Type 0
+opens_at boxed b at (Some (end, start)) = Opened boxed b at end start
+opens_at boxed b at None = (get : Reader Body) → unbox boxed get (drop at b) ≡ none
 
-pub record Opens (boxed : Bool) (b : List ℕ) (at : ℕ) (r : Num) : Type 0 where
+pub record Opens (boxed : Bool) (b : List ℕ) (at : ℕ) (r : rust.Option (ℕ × ℕ)) : Type 0 where
   pub says : opens_at boxed b at r
 
 module _ {boxed : Bool} {b : List ℕ} {at : ℕ} where
-  pub opened : {r : Num} {end start : ℕ} → r ≡ num.Some end start → Opens boxed b at r → Opened boxed b at end start
+  pub opened : {r : rust.Option (ℕ × ℕ)} {end start : ℕ} → r ≡ Some (end, start) → Opens boxed b at r → Opened boxed b at end start
   unfolding opens_at
   opened e h = rw e at h.says
 
-  pub opened-none : {r : Num} → r ≡ num.None → Opens boxed b at r → (get : Reader Body) → unbox boxed get (drop at b) ≡ none
+  pub opened-none : {r : rust.Option (ℕ × ℕ)} → r ≡ None → Opens boxed b at r → (get : Reader Body) → unbox boxed get (drop at b) ≡ none
   unfolding opens_at
   opened-none e h = rw e at h.says
 
-  opens : {end start : ℕ} → Opened boxed b at end start → Opens boxed b at (num.Some end start)
+  opens : {end start : ℕ} → Opened boxed b at end start → Opens boxed b at (Some (end, start))
   unfolding opens_at
   opens h = record { says = h }
 
-  opens-none : ((get : Reader Body) → unbox boxed get (drop at b) ≡ none) → Opens boxed b at num.None
+  opens-none : ((get : Reader Body) → unbox boxed get (drop at b) ≡ none) → Opens boxed b at None
   unfolding opens_at
   opens-none h = record { says = h }
 
@@ -58,21 +57,21 @@ part : (b : List ℕ) (at n : ℕ) → at ≤ length b → drop at (take (at + n
 part b at n h = rw (take-add at n b) (drop_at (take at b) (take n (drop at b)) at (length-take-le at b h))
 
 module _ (b : List ℕ) (at : ℕ) where
-  pub opens-bare : {boxed : Bool} → boxed ≡ false → at ≤ length b → Opens boxed b at (num.Some (length b) at)
+  pub opens-bare : {boxed : Bool} → boxed ≡ false → at ≤ length b → Opens boxed b at (Some (length b, at))
   unfolding unbox need
   opens-bare e h = rw e (opens (record { low = omega arith; inner = h; high = omega arith; whole = λ _. refl; is = λ get. rw (take-length b) (left_as_is (get (drop at b))) }))
 
-  module _ {boxed : Bool} (e : boxed ≡ true) {r : Num} (h : Reads (get_pkg_length true) b at r) where
-    pub opens_unmeasured : r ≡ num.None → Opens boxed b at num.None
+  module _ {boxed : Bool} (e : boxed ≡ true) {r : rust.Option (ℕ × ℕ)} (h : Reads (get_pkg_length true) b at r) where
+    pub opens_unmeasured : r ≡ None → Opens boxed b at None
     unfolding unbox ◌>>=◌
     opens_unmeasured f = rw e (opens-none λ get. rw (got-none f h) refl)
 
-    module _ {n next : ℕ} (f : r ≡ num.Some n next) where
-      pub opens-short : length b - next < n → Opens boxed b at num.None
+    module _ {n next : ℕ} (f : r ≡ Some (n, next)) where
+      pub opens-short : length b - next < n → Opens boxed b at None
       unfolding unbox ◌>>=◌
       opens-short s = rw e (opens-none λ get. rw ((got f h).is, cut_short n (drop next b) (rw length-drop s)) refl)
 
-      pub opens-boxed : n ≤ length b - next → Opens boxed b at (num.Some (next + n) next)
+      pub opens-boxed : n ≤ length b - next → Opens boxed b at (Some (next + n, next))
       unfolding unbox ◌>>=◌
       opens-boxed s =
           let g = got f h in
@@ -118,9 +117,9 @@ module _ {b : List ℕ} {at : ℕ} where
   opened_some true h z = none-ne-some _ (sym (z takes_all) ∙ h.is takes_all)
   opened_some false h z = none-ne-some _ (sym (z takes_all) ∙ h.is takes_all)
 
-  pub opens_determined : (boxed : Bool) (r s : Num) → Opens boxed b at r → Opens boxed b at s → r ≡ s
+  pub opens_determined : (boxed : Bool) (r s : rust.Option (ℕ × ℕ)) → Opens boxed b at r → Opens boxed b at s → r ≡ s
   unfolding opens_at
-  opens_determined boxed (num.Some e t) (num.Some f u) h k = let (p, q) = opened-same boxed h.says k.says in ap₂ num.Some p q
-  opens_determined boxed (num.Some e t) num.None h k = absurd (opened_some boxed h.says k.says)
-  opens_determined boxed num.None (num.Some f u) h k = absurd (opened_some boxed k.says h.says)
-  opens_determined boxed num.None num.None h k = refl
+  opens_determined boxed (Some (e, t)) (Some (f, u)) h k = let (p, q) = opened-same boxed h.says k.says in rw (p, q) refl
+  opens_determined boxed (Some (e, t)) None h k = absurd (opened_some boxed h.says k.says)
+  opens_determined boxed None (Some (f, u)) h k = absurd (opened_some boxed k.says h.says)
+  opens_determined boxed None None h k = refl

@@ -1,8 +1,8 @@
 -- Laws of the kind that begins here: for the code that finds it, and for whoever reads the term of that kind.
 -- Assumes nothing.
-use Rattle.std.specs.Prelude.{◌≡◌, Bool, ◌&&◌, ◌||◌, not, cond, List, [], ℕ, suc, ◌+◌, ◌-◌, ◌*◌, ◌^◌, ◌≤◌, ◌<◌, eqb, leb, get_or}
+use Rattle.std.specs.Prelude.{◌≡◌, Bool, ◌&&◌, not, cond, List, [], ℕ, suc, ◌+◌, ◌-◌, ◌*◌, ◌^◌, ◌≤◌, ◌<◌, ◌≢◌, ◌⊎◌, eqb, leb, get_or}
 use Rattle.std.proofs.Math.Path.{refl, ap}
-use Rattle.std.proofs.Common.{sym, ◌∙◌, eqb→eq, leb→le, take-append-drop}
+use Rattle.std.proofs.Common.{sym, ◌∙◌, inl, inr, ⊎_elim, eqb→eq, leb→le, take-append-drop}
 use Rattle.std.proofs.Math.Bool.{true, false}
 use Rattle.std.proofs.Math.Option.{Option, none, some}
 use native.Mathlib.Omega.{arith}
@@ -13,8 +13,9 @@ use Rattle.std.proofs.Math.Seq.{get_or-drop, length-take-le, take_at}
 use Rattle.octets.specs.Bytes.{◌>>=◌, need, begins, le, value, le_at}
 use Rattle.octets.specs.Tests.{and_left, and_right, test_true, true_test, cond_case, cond_inv}
 use Rattle.octets.specs.Laws.{begins-back, begins-only, le-length, le-value, value-le}
-use Rattle.octets.specs.Reading.{Digits, begins-short, past_end, next_byte}
+use Rattle.octets.specs.Reading.{Digits, past_end, next_byte}
 use Rattle.grammar.specs.declared.Place.{Place}
+use Rattle.grammar.specs.declared.Place.TheVariants.{InList, Operand, Datum, Element, FieldEntry, Descriptor}
 use Rattle.grammar.specs.declared.Row.{Row}
 use Rattle.grammar.specs.Kinds.{rank, is, stands, opcode, normal_kinds, other_kinds, kinds, no_row, find}
 use Rattle.grammar.specs.Packed.{row_at, position}
@@ -26,21 +27,38 @@ use Rattle.tree.proofs.TableLaws.{normal-row, kind-bytes}
 use Rattle.start.specs.Start.{normal_count, starts_as, start_at, Begins}
 
 -- ── Which kind
-module _ (p : Place) (b : List ℕ) (at : ℕ) (h : at < length b) {c : ℕ} (ce : c ≡ get_or b at 0) {m : ℕ} (me : m ≡ rank p) where
-  pub kind-entry : m ≡ 4 → {k : ℕ} → k ≡ cond (eqb c 0) 0xF000 0xF001 → k ≡ kind_at p (drop at b)
-  unfolding kind_at entry_in is rank
-  kind-entry e k = rw (next_byte b at h, ← ce, ← me, eq-eqb _ _ e) k
+pub no_entry : (p : Place) → (p ≢ FieldEntry) → is p FieldEntry ≡ false
+unfolding is rank
+no_entry InList h = refl
+no_entry Operand h = refl
+no_entry Datum h = refl
+no_entry Element h = refl
+no_entry FieldEntry h = absurd (h refl)
+no_entry Descriptor h = refl
 
-  module _ (ne : m ≡ 4 → ⊥) where
-    pub kind-twofold : {d : ℕ} → true ≡ (eqb c 0x5B || eqb c 0x92) → d ≡ get_or b (at + 1) 0 → 256 * c + d ≡ kind_at p (drop at b)
-    unfolding kind_at kind_in twofold is rank
+pub two_bytes : (c : ℕ) → (c ≡ 0x5B) ⊎ (c ≡ 0x92) → twofold c ≡ true
+unfolding twofold
+two_bytes c h = ⊎_elim (λ e. rw e refl) (λ e. rw e refl) h
+
+pub one_byte : (c : ℕ) → ((c ≡ 0x5B) ⊎ (c ≡ 0x92) → ⊥) → twofold c ≡ false
+unfolding twofold
+one_byte c h = rw (ne_eqb _ _ (λ e. h (inl e)), ne_eqb _ _ (λ e. h (inr e))) refl
+
+module _ (p : Place) (b : List ℕ) (at : ℕ) (h : at < length b) {c : ℕ} (ce : c ≡ get_or b at 0) where
+  pub kind-entry : p ≡ FieldEntry → {k : ℕ} → k ≡ cond (eqb c 0) 0xF000 0xF001 → k ≡ kind_at p (drop at b)
+  unfolding kind_at entry_in is rank
+  kind-entry e k = rw (next_byte b at h, ← ce, e) k
+
+  module _ (ne : is p FieldEntry ≡ false) where
+    pub kind-twofold : {d : ℕ} → twofold c ≡ true → d ≡ get_or b (at + 1) 0 → 256 * c + d ≡ kind_at p (drop at b)
+    unfolding kind_at kind_in
     kind-twofold t e =
         let z : at + 1 + 0 ≡ at + 1 = omega arith in
-        rw (next_byte b at h, ← ce, ← me, ne_eqb _ _ ne, ← t, get_or-drop (at + 1) b 0 0, z, ← e) refl
+        rw (next_byte b at h, ← ce, ne, t, get_or-drop (at + 1) b 0 0, z, ← e) refl
 
-    pub kind_family : {k : ℕ} → false ≡ (eqb c 0x5B || eqb c 0x92) → k ≡ family_of (get_or b at 0) → k ≡ kind_at p (drop at b)
-    unfolding kind_at kind_in twofold is rank
-    kind_family t e = rw (next_byte b at h, ← ce, ← me, ne_eqb _ _ ne, ← t) (rw (← ce) at e)
+    pub kind_family : {k : ℕ} → twofold c ≡ false → k ≡ family_of (get_or b at 0) → k ≡ kind_at p (drop at b)
+    unfolding kind_at kind_in
+    kind_family t e = rw (next_byte b at h, ← ce, ne, t) (rw (← ce) at e)
 
 -- ── Its opcode: n bytes at `at`, as one number x
 alike : (a b : Bool) → (T a → T b) → (T b → T a) → a ≡ b
@@ -49,8 +67,14 @@ alike false true f g = absurd (g tt)
 alike false false f g = refl
 
 module _ (b : List ℕ) (at n op : ℕ) where
-  pub opcode-short : length b - at < n → false ≡ begins (le n op) (drop at b)
-  opcode-short h = begins-short b at (le n op) (rw (le-length n op) h)
+  pub opcode-short : length b - at < n → leb n (length b - at) ≡ begins (le n op) (drop at b)
+  opcode-short h =
+      let bs = drop at b in
+      alike (leb n (length b - at)) (begins (le n op) bs)
+      (λ t. let l : n ≤ length b - at = leb→le n _ t in absurd (omega arith))
+      (λ t.
+      let e = ap length (begins-only (le n op) bs t) in
+      absurd (omega (arith, length-append (le n op) (drop (length (le n op)) bs), le-length n op, length-drop at b)))
 
   pub opcode-is : {x : ℕ} → n ≤ length b - at → op < 256 ^ n → Digits b at n x → eqb x op ≡ begins (le n op) (drop at b)
   unfolding le_at

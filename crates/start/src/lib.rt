@@ -4,10 +4,8 @@
 ghost use Rattle.std.specs.Prelude.{◌≡◌, cond, ◌+◌, ◌^◌, ◌≤◌, ◌<◌, eqb, length, drop, get_or};
 ghost use Rattle.octets.specs.Bytes.{le, begins};
 ghost use Rattle.tree.specs.Read.{kind_at};
-ghost use Rattle.start.specs.Start.{start_at};
+ghost use Rattle.start.specs.Start.{Started};
 ghost use Rattle.start.specs.Box.{Opens};
-
-use octets::Num;
 
 // ── The kind
 
@@ -15,10 +13,7 @@ use octets::Num;
 fn byte_at(b: &[u8], at: usize) -> u64
     ensures { (result ≡ get_or b.now at 0) × (result < 256) }
 {
-    if b.len() <= at {
-        return 0;
-    }
-    octets::wide(b[at])
+    b.get(at).copied().map_or(0, u64::from)
 }
 
 // A field's entry is 00 or a segment.
@@ -33,14 +28,14 @@ fn kind_at(b: &[u8], at: usize, place: grammar::Place) -> u64
     requires { at < length b.now }
     ensures { result ≡ kind_at place (drop at b.now) }
 {
-    let c = octets::wide(b[at]);
-    if grammar::rank_of(place) == 4 {
+    let c = u64::from(b[at]);
+    if matches!(place, grammar::Place::FieldEntry) {
         return entry_of(c);
     }
-    if octets::either(c == 0x5B, c == 0x92) {
+    if matches!(c, 0x5B | 0x92) {
         return 256 * c + byte_at(b, at + 1);
     }
-    octets::wide(grammar::family(b[at]))
+    u64::from(grammar::family(b[at]))
 }
 
 // Whether the n bytes of op stand at `at`.
@@ -48,60 +43,46 @@ fn is_opcode(n: usize, op: u64, b: &[u8], at: usize) -> bool
     requires { (n ≤ 2) × (op < 256 ^ n) × (at ≤ length b.now) }
     ensures { result ≡ begins (le n op) (drop at b.now) }
 {
-    if b.len() - at < n {
-        return false;
-    }
-    octets::get_le(b, at, n) == op
+    n <= b.len() - at && octets::get_le(b, at, n) == op
 }
 
-// Where in the table of kinds the kind stands that begins here, may stand in this place, and has its opcode there; 57 is none.
-pub fn start_at(b: &[u8], at: usize, place: grammar::Place) -> usize
-    ensures { result ≡ start_at place (drop at b.now) }
+// Where in the table of kinds the kind stands that begins here, is a normal one (they are the first 57), may stand in this place, and
+// has its opcode there.
+pub fn start_at(b: &[u8], at: usize, place: grammar::Place) -> Option<usize>
+    ensures { Started place (drop at b.now) result }
 {
     if b.len() <= at {
-        return 57;
+        return None;
     }
     let j = grammar::position_of(kind_at(b, at, place));
     if 57 <= j {
-        return 57;
+        return None;
     }
     let row = grammar::row_at(j);
     let places = row.places;
     if !grammar::may_stand(places, place) {
-        return 57;
+        return None;
     }
     if is_opcode(row.ops as usize, row.op, b, at) {
-        return j;
+        return Some(j);
     }
-    57
+    None
 }
 
 // ── The body
 
-// Where a body starts and ends: behind its PkgLength and as far as that says, if it is boxed; else from here to the end.
-pub fn box_at(b: &[u8], at: usize, boxed: bool) -> Num
+// Where a body ends and starts: behind its PkgLength and as far as that says, if it is boxed; else from here to the end.
+pub fn box_at(b: &[u8], at: usize, boxed: bool) -> Option<(u64, usize)>
     requires { at ≤ length b.now }
     ensures { Opens «boxed» b.now at result }
 {
     if !boxed {
-        return Num::Some {
-            value: b.len() as u64,
-            next: at,
-        };
+        return Some((b.len() as u64, at));
     }
-    let n = number::pkg_length_at(b, at, true);
-    match n {
-        Num::Some { value, next } => {
-            let left = (b.len() - next) as u64;
-            if left < value {
-                Num::None
-            } else {
-                Num::Some {
-                    value: next as u64 + value,
-                    next,
-                }
-            }
-        }
-        Num::None => Num::None,
+    let (size, start) = number::pkg_length_at(b, at, true)?;
+    let left = (b.len() - start) as u64;
+    if left < size {
+        return None;
     }
+    Some((start as u64 + size, start))
 }

@@ -1,9 +1,8 @@
 -- The term file: a header of 60 bytes, then records, arities and pool, which touch; and when its layout is refused (1, 2).
 -- Document 01, "The term file" and "Refusal numbers".
 -- Assumes nothing.
-use Rattle.std.specs.Prelude.{Bool, ◌&&◌, not, cond, List, [], ◌∷◌, ℕ, ◌+◌, ◌*◌, eqb, leb, length, take, drop, get_or}
+use Rattle.std.specs.Prelude.{Bool, ◌&&◌, not, cond, List, [], ◌∷◌, ℕ, ◌+◌, ◌-◌, ◌*◌, eqb, leb, length, take, drop, get_or}
 use Rattle.octets.specs.Bytes.{begins, le_at}
-use Rattle.term.specs.declared.Layout.{Layout}
 
 -- "TERM"
 abbrev pub magic : List ℕ
@@ -54,12 +53,30 @@ laid_out f = leb 60 (length f) && begins magic f && eqb (get_or f 59 0) 0 && tou
 unfoldable pub few : List ℕ → Bool
 few f = leb (record_count f) 65536 && leb (arity_count f) 4096
 
+-- the refusal, or 0 and where arities and pool begin
+pub record Layout : Type 0 where
+  pub number : ℕ
+  pub arities : ℕ
+  pub pool : ℕ
+
 abbrev pub refused_by : ℕ → Layout
 refused_by number = record { number = number; arities = 0; pool = 0 }
 
--- the number, and where arities and pool begin
 unfoldable pub layout_of : List ℕ → Layout
 layout_of f =
     cond (not (laid_out f)) (refused_by 1)
     (cond (not (few f)) (refused_by 2)
     (record { number = 0; arities = arity_offset f; pool = pool_offset f }))
+
+-- ── The sections
+abbrev pub part : List ℕ → ℕ → ℕ → List ℕ
+part f from to = take (to - from) (drop from f)
+
+abbrev pub record_section : List ℕ → List ℕ
+record_section f = part f 60 (layout_of f).arities
+
+abbrev pub arity_section : List ℕ → List ℕ
+arity_section f = part f (layout_of f).arities (layout_of f).pool
+
+abbrev pub pool_section : List ℕ → List ℕ
+pool_section f = part f (layout_of f).pool (length f)

@@ -1,4 +1,5 @@
 pub mod File
+pub mod LaidOut
 pub mod Record
 pub mod FileLaws
 pub mod RecordLaws

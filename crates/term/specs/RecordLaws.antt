@@ -1,11 +1,10 @@
--- How the code meets the records: at an index there is one and the rest, or none; and where a text lies. Assumes nothing.
-use Rattle.std.specs.Prelude.{◌≡◌, refl, ℕ, zero, suc, ◌+◌, ◌-◌, ◌*◌, ◌/◌, ◌%◌, ◌<◌, ◌≤◌, List, [], ◌∷◌, length, take, drop}
-use Rattle.std.proofs.Common.{sym, ap, ◌∙◌, arith, add-one, length-drop, drop_of_length-le, take_all}
-use Rattle.std.proofs.Math.Seq.{take-nil}
+-- How the code meets the records: at an index there is one and the rest, or none. Assumes nothing.
+use Rattle.std.specs.Prelude.{◌≡◌, refl, ℕ, zero, suc, ◌+◌, ◌-◌, ◌*◌, ◌/◌, ◌%◌, ◌<◌, ◌≤◌, List, [], ◌∷◌, length}
+use Rattle.std.proofs.Common.{ap, arith, add-one}
 use Rattle.octets.specs.Bytes.{le_at}
 use Rattle.octets.specs.Reading.{Digits, digits_low, digits-high}
 use Rattle.term.specs.declared.Record.{Record}
-use Rattle.term.specs.Record.{record_at, records_of, records_from, text_at}
+use Rattle.term.specs.Record.{record_at, records_of, records_from}
 
 step : (b : List ℕ) (i m n : ℕ) → m ≡ suc n → records_of b i m ≡ record_at b i ∷ records_of b (suc i) n
 unfolding records_of
@@ -42,16 +41,3 @@ record_parted b i h dw dx dv =
     dx.is
     (digits_low 4 4 (omega arith) dv).is
     (rw e at (digits-high 4 4 (omega arith) dv).is)
-
--- ── A text behind the pool, up to its end, and inside it
-pub text_out : (pool : List ℕ) (s n : ℕ) → length pool ≤ s → text_at pool s n ≡ []
-unfolding text_at
-text_out pool s n h = rw (drop_of_length-le pool h, take-nil)
-
-pub text_end : (pool : List ℕ) (s n : ℕ) → s ≤ length pool → length pool - s ≤ n → text_at pool s n ≡ take (length pool - s) (drop s pool)
-unfolding text_at
-text_end pool s n h g = take_all n (drop s pool) (rw length-drop (omega arith)) ∙ sym (take_all (length pool - s) (drop s pool) (rw length-drop (omega arith)))
-
-pub text_in_lem : (pool : List ℕ) (s n e : ℕ) → e ≡ s + n → text_at pool s n ≡ take (e - s) (drop s pool)
-unfolding text_at
-text_in_lem pool s n e h = let z : e - s ≡ n = omega arith in rw z refl

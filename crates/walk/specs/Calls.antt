@@ -1,15 +1,15 @@
 -- How many arguments a term takes: those of its path, if it is a call; other kinds do not ask.
 -- Assumes nothing.
 use Rattle.std.specs.Prelude.{◌≡◌, refl, Bool, true, false, ◌&&◌, ◌||◌, not, cond, List, ℕ, ◌-◌, T, leb, length}
-use Rattle.std.proofs.Common.{sym, ◌∙◌, ap, true≢false, eqb→eq}
+use Rattle.std.proofs.Common.{◌∙◌, ap, true≢false, eqb→eq}
 use Rattle.std.proofs.Math.Option.{some}
 use Rattle.std.proofs.Math.ListN.{drop}
-use Rattle.std.proofs.lemmas.Bool.{not-true, not-false}
 use Rattle.octets.specs.Bytes.{Reader, ◌>>=◌, need, every, cut, value, get_le}
 use Rattle.octets.specs.Reading.{Got}
 use Rattle.octets.specs.Tests.{and_left, and_right, took, gave, need_inv}
 use Rattle.path.specs.Get.{get_path_text, get_path_length, path_text}
 use Rattle.grammar.specs.declared.Place.{Place}
+use Rattle.grammar.specs.declared.Place.TheVariants.{InList, Operand, Datum, Element, FieldEntry, Descriptor}
 use Rattle.grammar.specs.declared.Text.{Text}
 use Rattle.grammar.specs.declared.Text.TheVariants.{Unused, PathText, SegmentText, Ascii, AnyBytes, EisaText, UuidText, DescriptorText}
 use Rattle.grammar.specs.declared.Numbers.{Numbers}
@@ -17,28 +17,46 @@ use Rattle.grammar.specs.declared.Numbers.TheVariants.{Digits, MethodFlags, Leve
 use Rattle.grammar.specs.declared.Rest.{Rest}
 use Rattle.grammar.specs.declared.Rest.TheVariants.{Nothing, Arity, Listed, Counted, Measured}
 use Rattle.grammar.specs.declared.Row.{Row}
-use Rattle.grammar.specs.Kinds.{counts, args_at, normal_kinds, find}
+use Rattle.grammar.specs.Kinds.{is, rank, counts, args_at, normal_kinds, find}
 use Rattle.grammar.specs.KindLaws.{every_row, found-rule}
 use Rattle.fields.specs.Get.{get_text, get_form, get_fields}
 use Rattle.fields.specs.WrittenLaws.{no_bytes}
 use Rattle.grammar.specs.Forest.{Forest, count}
-use Rattle.arity.specs.Arity.{args_of}
+use Rattle.tree.specs.Fits.{Args}
 use Rattle.tree.specs.Read.{Tree, get_many, get_kids}
 use Rattle.taken.specs.Taken.{Took}
 use Rattle.taken.specs.Standing.{took-path}
 use Rattle.walk.specs.Walk.{is_call}
 
 -- ── What the code answers
-module _ (t : Rest) {c : Bool} (e : c ≡ is_call t) where
-  pub calls_is : not c ≡ false → is_call t ≡ true
-  calls_is h = sym e ∙ not-false c h
+module _ (p : Place) (args : ℕ) where
+  pub call_element : {t : Rest} → p ≡ Element → t ≡ Arity → 0 ≡ cond (is_call t) (args_at p args) 0
+  unfolding is_call args_at is rank
+  call_element e f = rw (e, f) refl
 
-  module _ (p : Place) (args : ℕ) where
-    pub calls_not : not c ≡ true → 0 ≡ cond (is_call t) (args_at p args) 0
-    calls_not h = rw (sym e ∙ not-true c h) refl
+  pub call-other : {t : Rest} → (p ≡ Element → ⊥) → t ≡ Arity → {n : ℕ} → n ≡ args → n ≡ cond (is_call t) (args_at p args) 0
+  unfolding is_call args_at is rank
+  call-other n f e = rw f (e ∙ not-element p n)
+    where
+      not-element : (p : Place) → (p ≡ Element → ⊥) → args ≡ args_at p args
+      not-element InList n = refl
+      not-element Operand n = refl
+      not-element Datum n = refl
+      not-element Element n = absurd (n refl)
+      not-element FieldEntry n = refl
+      not-element Descriptor n = refl
 
-    pub calls_all : not c ≡ false → {n : ℕ} → n ≡ args_at p args → n ≡ cond (is_call t) (args_at p args) 0
-    calls_all h k = rw (calls_is h) k
+  pub no-call : (t : Rest) → (t ≡ Arity → ⊥) → 0 ≡ cond (is_call t) (args_at p args) 0
+  unfolding is_call
+  no-call Nothing n = refl
+  no-call Arity n = absurd (n refl)
+  no-call Listed n = refl
+  no-call Counted n = refl
+  no-call Measured n = refl
+
+pub is-call : {t : Rest} → t ≡ Arity → is_call t ≡ true
+unfolding is_call
+is-call e = rw e refl
 
 -- ── A call has a path, and no numbers
 unfoldable pub is_path_text : Text → Bool
@@ -51,6 +69,10 @@ is_path_text EisaText = false
 is_path_text UuidText = false
 is_path_text DescriptorText = false
 
+pub is-path_text : {y : Text} → y ≡ PathText → true ≡ is_path_text y
+unfolding is_path_text
+is-path_text e = rw e refl
+
 path_form : (y : Text) → T (is_path_text y) → y ≡ PathText
 unfolding is_path_text
 path_form Unused h = absurd h
@@ -61,6 +83,13 @@ path_form AnyBytes h = absurd h
 path_form EisaText h = absurd h
 path_form UuidText h = absurd h
 path_form DescriptorText h = absurd h
+
+pub not-path_text : (y : Text) → (y ≡ PathText → ⊥) → false ≡ is_path_text y
+not-path_text y n = by (is_path_text y) refl
+  where
+    by : (b : Bool) → is_path_text y ≡ b → false ≡ b
+    by true e = absurd (n (path_form y (rw e tt)))
+    by false e = refl
 
 calling : Row → Bool
 calling r = not (is_call r.rest) || (is_path_text r.text && no_bytes r.numbers)
@@ -122,11 +151,11 @@ module _ {row : Row} (found : find row.kind normal_kinds ≡ some row) {b : List
       }
 
   -- and the children are read by what the code answers
-  pub call_kids : (g : Place → Reader Tree) (arities pool : List ℕ) (p : Place) {n : ℕ} → n ≡ cond (is_call row.rest) (args_at p (args_of arities pool (path_text (drop at b)))) 0
-      → (bs : List ℕ) → get_kids g row n bs ≡ get_kids g row (args_at p (args_of arities pool h.text)) bs
-  call_kids g arities pool p e bs = by (is_call row.rest) refl e
+  pub call_kids : (g : Place → Reader Tree) (args : Args) (p : Place) {n : ℕ} → n ≡ cond (is_call row.rest) (args_at p (args (path_text (drop at b)))) 0
+      → (bs : List ℕ) → get_kids g row n bs ≡ get_kids g row (args_at p (args h.text)) bs
+  call_kids g args p e bs = by (is_call row.rest) refl e
     where
-      by : {n : ℕ} (c : Bool) → is_call row.rest ≡ c → n ≡ cond c (args_at p (args_of arities pool (path_text (drop at b)))) 0
-          → get_kids g row n bs ≡ get_kids g row (args_at p (args_of arities pool h.text)) bs
+      by : {n : ℕ} (c : Bool) → is_call row.rest ≡ c → n ≡ cond c (args_at p (args (path_text (drop at b)))) 0
+          → get_kids g row n bs ≡ get_kids g row (args_at p (args h.text)) bs
       by true k e = rw (e, took-path h (is-calling found k).0) refl
       by false k e = kids-same g row _ _ bs k

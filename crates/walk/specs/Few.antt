@@ -1,6 +1,6 @@
 -- A walk over terms that can be read has a byte of the table for each record at least, and at most two bytes of text for each byte.
 -- Assumes nothing.
-use Rattle.std.specs.Prelude.{◌≡◌, List, ℕ, ◌+◌, ◌≤◌, drop}
+use Rattle.std.specs.Prelude.{◌≡◌, List, ℕ, ◌+◌, ◌≤◌, drop, IfSome, Option as Answer, Some, None}
 use Rattle.std.proofs.Math.Path.{ap}
 use Rattle.std.proofs.Math.Option.{some}
 use Rattle.std.proofs.Common.{arith}
@@ -26,9 +26,10 @@ module _ (args : Args) (l : ℕ) (p : Place) (b : List ℕ) (at next : ℕ) (t :
       (few-forest args (λ _. p) l 0 (onto t nil) g.0 g.1, omega (arith, ap length e, length-append (tree_bytes t) (drop next b), length-drop at b, length-drop next b))
 
 -- what a walk over a term says of its size
-pub term_spans : (args : Args) (l : ℕ) (p : Place) {b : List ℕ} {at i : ℕ} {first out : List ℕ} {w : Walk} → at ≤ length b → Walks tree (read args l p (drop at b)) b at i first out w → Spans at w
-term_spans args l p {b} {at} {w = w} h k =
-    record {
-      few = λ o. let r = k.good o in let (f, e) = took-few args l p b at w.next r.value r.is h r.high in omega (arith, f.records, r.records);
-      short = λ o. let r = k.good o in let (f, e) = took-few args l p b at w.next r.value r.is h r.high in omega (arith, f.texts, r.texts);
-    }
+pub term_spans : (args : Args) (l : ℕ) (p : Place) {b : List ℕ} {at i : ℕ} {first out : List ℕ} (o : Answer Walk) → at ≤ length b
+    → Walks tree (read args l p (drop at b)) b at i first out o → IfSome o (Spans at)
+term_spans args l p None h k = tt
+term_spans args l p {b} {at} (Some w) h k =
+    let r = k.tells in
+    let (f, e) = took-few args l p b at w.next r.value r.is h r.high in
+    record { few = omega (arith, f.records, r.records); short = omega (arith, f.texts, r.texts) }

@@ -1,8 +1,8 @@
 -- Children one after the other: so many of them are read, and the rest is what is left to read.
 -- Assumes nothing.
-use Rattle.std.specs.Prelude.{◌≡◌, Bool, ◌&&◌, ◌||◌, List}
+use Rattle.std.specs.Prelude.{◌≡◌, Bool, ◌&&◌, ◌||◌, ◌⊎◌, List, Some, None}
 use Rattle.std.proofs.Math.Path.{refl, sym, ap}
-use Rattle.std.proofs.Common.{◌∙◌, true≢false, ltb→lt, length-drop}
+use Rattle.std.proofs.Common.{◌∙◌, ⊎_elim, true≢false, ltb→lt, length-drop}
 use Rattle.std.proofs.Math.Bool.{true, false, not}
 use Rattle.std.proofs.Math.Option.{Option, none, some}
 use Prim.Native.Nat.{ℕ, zero, suc, ◌+◌, ◌-◌, ◌*◌, ◌≤◌, ◌<◌}
@@ -28,6 +28,14 @@ use Rattle.walk.specs.Walk.{tree, forest, Walks, Spans, several}
 -- whether another is read: some are left, and a list is not at its end
 unfoldable pub goes_on : Bool → ℕ → ℕ → ℕ → Bool
 goes_on listed left next end = ltb 0 left && not (listed && eqb next end)
+
+-- what has to end at n ends there, or need not, or does not
+module _ {x : Bool} {m n : ℕ} where
+  pub ends : (x ≡ false) ⊎ ((x ≡ true) × (m ≡ n)) → (not x || eqb m n) ≡ true
+  ends h = ⊎_elim (λ e. rw e refl) (λ e. rw (e.0, eq-eqb m n e.1) refl) h
+
+  pub ends-not : (x ≡ true) × (m ≡ n → ⊥) → (not x || eqb m n) ≡ false
+  ends-not h = rw (h.0, ne_eqb m n h.1) refl
 
 -- what is read behind f
 unfoldable pub after : Forest → Option (Forest × List ℕ) → Option (Forest × List ℕ)
@@ -139,22 +147,18 @@ module _ (listed : Bool) (g : Place → Reader Tree) (place : ℕ → Place) whe
 
   module _ {n : ℕ} {b : List ℕ} {at i : ℕ} {first out : List ℕ} {left j next records texts : ℕ} (h : Turning n b at i first out left j next records texts) where
     -- the next one cannot be read
-    pub turning_bad : goes_on listed left next (length b) ≡ true → {out' : List ℕ} {w : Walk} → Walks tree (g (place j) (drop next b)) b next (i + records) out out' w → w.ok ≡ false
-        → Walks forest (several listed g place n 0 (drop at b)) b at i first out' w
+    pub turning_bad : goes_on listed left next (length b) ≡ true → {out' : List ℕ} → Walks tree (g (place j) (drop next b)) b next (i + records) out out' None
+        → Walks forest (several listed g place n 0 (drop at b)) b at i first out' None
     unfolding after ◌>>=◌
-    turning_bad t {w = w} k e =
-        record {
-          good = λ o. absurd (true≢false (sym o ∙ e));
-          bad = λ _. h.is ∙ rw (several-one left j b next (true_test (goes_on listed left next (length b)) t) h.within, k.bad e) refl;
-          same = k.same ∙ h.same;
-        }
+    turning_bad t k =
+        record { tells = h.is ∙ rw (several-one left j b next (true_test (goes_on listed left next (length b)) t) h.within, k.tells) refl; same = k.same ∙ h.same }
 
     -- or it is
-    pub turning_next : goes_on listed left next (length b) ≡ true → {out' : List ℕ} {w : Walk} → Walks tree (g (place j) (drop next b)) b next (i + records) out out' w → Spans next w → w.ok ≡ true
+    pub turning_next : goes_on listed left next (length b) ≡ true → {out' : List ℕ} {w : Walk} → Walks tree (g (place j) (drop next b)) b next (i + records) out out' (Some w) → Spans next w
         → Turning n b at i first out' (left - 1) (j + 1) w.next (records + w.records) (texts + w.texts)
     unfolding after ◌>>=◌ count flatten
-    turning_next t {w = w} k q e =
-        let r = k.good e in
+    turning_next t {w = w} k q =
+        let r = k.tells in
         let s = several-one left j b next (true_test (goes_on listed left next (length b)) t) h.within in
         let f : several listed g place left j (drop next b) ≡ (several listed g place (left - 1) (j + 1) (drop w.next b) >>= λ s. some (onto r.value s.0, s.1)) = s ∙ rw r.is refl in
         let d = h.done in
@@ -167,34 +171,38 @@ module _ (listed : Bool) (g : Place → Reader Tree) (place : ℕ → Place) whe
           kids = rw (count-join d (onto r.value nil)) (omega (arith, h.kids));
           sum = omega (arith, h.sum, more_left);
           within = r.high;
-          few = omega (arith, h.few, q.few e);
-          short = omega (arith, h.short, q.short e);
+          few = omega (arith, h.few, q.few);
+          short = omega (arith, h.short, q.short);
           put = rw (flatten-join d (onto r.value nil)) (left-next h.put h.same (ap (λ k. i + k) h.records₁) r.left);
           same = k.same ∙ h.same;
         }
 
     -- and no more
-    pub turning_end : goes_on listed left next (length b) ≡ false → {w : Walk} → w.ok ≡ (not listed || eqb next (length b)) → w.records ≡ records → w.texts ≡ texts → w.kids ≡ j → w.next ≡ next
-        → Walks forest (several listed g place n 0 (drop at b)) b at i first out w
+    over : goes_on listed left next (length b) ≡ false → several listed g place n 0 (drop at b) ≡ after h.done (need (not listed || eqb next (length b)) (some (nil, drop next b)))
+    over t = h.is ∙ ap (after h.done) (several_end left j b next t h.within)
+
+    pub turning_end : goes_on listed left next (length b) ≡ false → (not listed || eqb next (length b)) ≡ true
+        → Walks forest (several listed g place n 0 (drop at b)) b at i first out (Some (record { records = records; texts = texts; kids = j; next = next }))
     unfolding after need
-    turning_end t {w} o r₁ t₁ k₁ n₁ =
-        let e = several_end left j b next t h.within in
+    turning_end t z =
         record {
-          good = λ y.
-              let z : not listed || eqb next (length b) ≡ true = sym o ∙ y in
-              record {
-                value = h.done;
-                is = h.is ∙ rw (e, z, n₁) (ap (λ f. some (f, drop next b)) (join-nil h.done));
-                records = r₁ ∙ h.records₁;
-                texts = t₁ ∙ h.texts₁;
-                kids = k₁ ∙ h.kids;
-                low = omega (arith, h.few, n₁);
-                high = omega (arith, h.within, n₁);
-                left = h.put;
-              };
-          bad = λ y. let z : not listed || eqb next (length b) ≡ false = sym o ∙ y in h.is ∙ rw (e, z) refl;
+          tells = record {
+            value = h.done;
+            is = over t ∙ rw z (ap (λ f. some (f, drop next b)) (join-nil h.done));
+            records = h.records₁;
+            texts = h.texts₁;
+            kids = h.kids;
+            low = omega (arith, h.few);
+            high = h.within;
+            left = h.put;
+          };
           same = h.same;
         }
 
-    pub turning_spans : {w : Walk} → w.records ≡ records → w.texts ≡ texts → w.next ≡ next → Spans at w
-    turning_spans r₁ t₁ n₁ = record { few = λ _. omega (arith, h.few, r₁, n₁); short = λ _. omega (arith, h.short, t₁, n₁) }
+    -- of a list before its end
+    pub turning_short : goes_on listed left next (length b) ≡ false → (not listed || eqb next (length b)) ≡ false → Walks forest (several listed g place n 0 (drop at b)) b at i first out None
+    unfolding after need
+    turning_short t z = record { tells = over t ∙ rw z refl; same = h.same }
+
+    pub turning_spans : Spans at (record { records = records; texts = texts; kids = j; next = next })
+    turning_spans = record { few = h.few; short = h.short }

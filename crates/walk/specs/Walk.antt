@@ -1,7 +1,7 @@
 -- A walk over a table's terms: what it tells of what a reader (tree's `read`, `get_body`, `times`, `list`) reads at a position, and that it
 -- leaves the records of what is read. A body's end is the end of the bytes that are lent.
 -- Assumes nothing.
-use Rattle.std.specs.Prelude.{◌≡◌, Bool, true, false, cond, List, ℕ, ◌+◌, ◌*◌, ◌≤◌, length, drop}
+use Rattle.std.specs.Prelude.{◌≡◌, Bool, true, false, cond, List, ℕ, ◌+◌, ◌*◌, ◌≤◌, length, drop, MatchOption, Option as Answer}
 use Rattle.std.proofs.Math.Option.{Option, none, some}
 use Rattle.octets.specs.Bytes.{Reader, get_le}
 use Rattle.grammar.specs.declared.Place.{Place}
@@ -10,7 +10,8 @@ use Rattle.grammar.specs.declared.Rest.TheVariants.{Nothing, Arity, Listed, Coun
 use Rattle.grammar.specs.declared.Row.{Row}
 use Rattle.grammar.specs.Kinds.{normal_kinds, find}
 use Rattle.grammar.specs.Forest.{Forest, nil, node, count, flatten}
-use Rattle.arity.specs.Arity.{arities_fit}
+use Rattle.arity.specs.Arity.{args_of}
+use Rattle.arity.specs.declared.Arities.{Arities}
 use Rattle.tree.specs.Read.{Body, Tree, onto, times, list}
 use Rattle.normal.specs.File.{term_texts}
 use Rattle.walk.specs.declared.Walk.{Walk}
@@ -37,21 +38,24 @@ pub record Reached {A : Type 0} (show : A → Forest) (m : Option (A × List ℕ
   pub high : w.next ≤ length b
   pub left : Left (flatten (show value)) b i first out
 
-pub record Walks {A : Type 0} (show : A → Forest) (m : Option (A × List ℕ)) (b : List ℕ) (at i : ℕ) (first out : List ℕ) (w : Walk) : Type 0 where
-  pub good : w.ok ≡ true → Reached show m b at i first out w
-  pub bad : w.ok ≡ false → m ≡ none
+-- and no walk, if nothing is read
+pub record Walks {A : Type 0} (show : A → Forest) (m : Option (A × List ℕ)) (b : List ℕ) (at i : ℕ) (first out : List ℕ) (o : Answer Walk) : Type 0 where
+  pub tells : MatchOption o (m ≡ none) (Reached show m b at i first out)
   pub same : length out ≡ length first
 
 -- a record takes at least one byte, and a byte gives at most two of text
 pub record Spans (at : ℕ) (w : Walk) : Type 0 where
-  pub few : w.ok ≡ true → w.records + at ≤ w.next
-  pub short : w.ok ≡ true → w.texts + 2 * at ≤ 2 * w.next
+  pub few : w.records + at ≤ w.next
+  pub short : w.texts + 2 * at ≤ 2 * w.next
 
--- ── What a walk asks for: a position in a table that is not too large, and an arity list that fits
-pub record Walkable (b arities pool : List ℕ) (at : ℕ) : Type 0 where
+-- ── What a walk asks for: a position in a table that is not too large
+pub record Walkable (b : List ℕ) (at : ℕ) : Type 0 where
   pub within : at ≤ length b
   pub most : length b ≤ 268435455
-  pub fit : arities_fit arities pool ≡ true
+
+-- and how many arguments a path takes
+abbrev pub args_by : Arities → List ℕ → ℕ
+args_by a = args_of a.entries.now a.pool.now
 
 -- a row of a normal kind
 pub record Normal (r : Row) : Type 0 where

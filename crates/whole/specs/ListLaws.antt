@@ -5,8 +5,7 @@ use Rattle.std.proofs.Common.{ap, arith, leb→le, eqb→eq, length-append, leng
 use Rattle.octets.specs.Tests.{and_left, and_right, test_true, true_test}
 use Rattle.path.specs.Path.{is_path}
 use Rattle.path.specs.PathLaws.{path-text-length}
-use Rattle.term.specs.declared.Layout.{Layout}
-use Rattle.term.specs.File.{laid_out, few, touching, refused_by, layout_of, record_count, arity_count, arity_offset, pool_offset}
+use Rattle.term.specs.File.{laid_out, few, touching, Layout, refused_by, layout_of, record_count, arity_count, arity_offset, pool_offset}
 use Rattle.arity.specs.declared.Entry.{Entry}
 use Rattle.arity.specs.Arity.{Arity, entries_of, entries_from, arity_in, arities_of, entry_fits, entries_fit, ascend, arities_fit}
 use Rattle.arity.specs.ArityLaws.{ascending}

@@ -18,11 +18,7 @@ pub fn eisa_value(t: &[u8]) -> u64
     requires { T (is_eisa t.now) }
     ensures { result ≡ eisa_id t.now }
 {
-    let found = ident::eisa_name(t);
-    match found {
-        ident::EISAName::Value { value } => value,
-        ident::EISAName::Malformed => 0,
-    }
+    ident::eisa_name(t).unwrap_or(0)
 }
 
 // The bytes of a text of this form, whatever the numbers beside it.
@@ -48,8 +44,8 @@ fn put_string(t: &[u8], out: &mut [u8]) -> usize
     ensures { Wrote (t.now ++ (0 ∷ [])) out.old out.new result }
 {
     let mut at = 0;
-    at = at + octets::put_slice(t, &mut out[at..]);
-    at = at + octets::put_le(1, 0, &mut out[at..]);
+    at += octets::put_slice(t, &mut out[at..]);
+    at += octets::put_le(1, 0, &mut out[at..]);
     at
 }
 
@@ -59,8 +55,8 @@ fn put_uuid_buffer(t: &[u8], out: &mut [u8]) -> usize
     ensures { Wrote (uuid t.now) out.old out.new result }
 {
     let mut at = 0;
-    at = at + number::put_buffer_front(16, &mut out[at..]);
-    at = at + ident::put_uuid(t, &mut out[at..]);
+    at += number::put_buffer_front(16, &mut out[at..]);
+    at += ident::put_uuid(t, &mut out[at..]);
     at
 }
 
@@ -87,7 +83,7 @@ fn form_len(numbers: grammar::Numbers, x: u64) -> usize
     ensures { FormTakes numbers x result }
 {
     match numbers {
-        grammar::Numbers::Digits { width, base } => width as usize,
+        grammar::Numbers::Digits { width, .. } => width as usize,
         grammar::Numbers::MethodFlags => 1,
         grammar::Numbers::LevelOrder => 3,
         grammar::Numbers::FieldFlags => 1,
@@ -143,7 +139,7 @@ pub fn put_fields(j: usize, t: &[u8], a: u64, x: u64, out: &mut [u8]) -> usize
     let kind = grammar::kind_at(j);
     let numbers = grammar::numbers_at(j);
     let mut at = 0;
-    at = at + put_text(text, kind, t, a, x, &mut out[at..]);
-    at = at + put_form(numbers, a, x, &mut out[at..]);
+    at += put_text(text, kind, t, a, x, &mut out[at..]);
+    at += put_form(numbers, a, x, &mut out[at..]);
     at
 }

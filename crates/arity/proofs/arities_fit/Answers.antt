@@ -7,10 +7,10 @@ loop-j-init c = fitting_start _ _
 
 pub loop-j-preserved : goal.loop-j-preserved
 loop-j-preserved c =
-    fitting_turn c.loop-j.invariant c.loop-j-test.true c.entry_at-e.ensures c.follows.ensures c.if-follows.true c.text_at-last.ensures
+    fitting_turn c.loop-j.invariant c.loop-j-test.true c.entry_at-e.ensures c.follows.ensures (search) c.text_at-last.ensures
 
-pub returns-else-follows : goal.returns-else-follows
-returns-else-follows c = fitting_bad c.loop-j.invariant c.loop-j-test.true c.entry_at-e.ensures c.follows.ensures c.if-follows.false
+pub returns-then-not-follows : goal.returns-then-not-follows
+returns-then-not-follows c = fitting_bad c.loop-j.invariant c.loop-j-test.true c.entry_at-e.ensures c.follows.ensures (search)
 
 pub returns : goal.returns
 returns c = fitting_end c.loop-j.invariant c.loop-j-test.false

@@ -1,4 +1,4 @@
-use Prim.Native.Nat.{◌+◌, ◌-◌, ◌*◌}
+use Rattle.std.proofs.Common.{◌+◌, ◌*◌}
 use Rattle.term.specs.Record.{records_from}
 use Rattle.checker.specs.Walk.{check, kids}
 use Rattle.checker.specs.WalkLaws.{Going}
@@ -6,10 +6,8 @@ use Rattle.checker.proofs.+check_kids_check_term.Given as goal
 
 abbrev pub invariant-check_kids-loop-j : goal.invariant-check_kids-loop-j
 invariant-check_kids-loop-j l =
-    Going (check l.arities l.pool l.levels) l.row l.records (kids (check l.arities l.pool l.levels) l.row l.n 0 (records_from l.records l.i) l.i) l.i l.n l.j l.next
-
-abbrev pub decreases-check_kids-loop-j : goal.decreases-check_kids-loop-j
-decreases-check_kids-loop-j l = l.n - l.j
+    let g = check l.arities.entries.now l.arities.pool.now l.levels in
+    Going g l.row l.records (kids g l.row l.n 0 (records_from l.records l.i) l.i) l.i l.n l.j l.next
 
 abbrev pub decreases-check_kids : goal.decreases-check_kids
 decreases-check_kids l = 2 * l.levels + 1

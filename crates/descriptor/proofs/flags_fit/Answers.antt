@@ -1,17 +1,16 @@
 -- `descriptor::flags_fit` meets its contract, by the type. Assumes nothing.
-use mathlib.Core.Path.{refl}
-use borrow.Author.Tests.{ne_eqb}
+use Rattle.std.proofs.Common.{refl, arith, ne_eqb}
 use Rattle.descriptor.specs.Descriptor.{flags_fit}
 use Rattle.descriptor.proofs.flags_fit.Goals as goal
 
-pub returns-then-a-eq0 : goal.returns-then-a-eq0
+pub returns-in-0 : goal.returns-in-0
 unfolding flags_fit
-returns-then-a-eq0 c = rw c.if-a-eq0.true refl
+returns-in-0 c = rw c.in-0.is refl
 
-pub returns-then-a-eq1 : goal.returns-then-a-eq1
+pub returns-in-1 : goal.returns-in-1
 unfolding flags_fit
-returns-then-a-eq1 c = rw c.if-a-eq1.true refl
+returns-in-1 c = rw c.in-1.is refl
 
-pub returns : goal.returns
+pub returns-in_default : goal.returns-in_default
 unfolding flags_fit
-returns c = rw (ne_eqb _ 0 c.if-a-eq0.false, ne_eqb _ 1 c.if-a-eq1.false) refl
+returns-in_default c = rw (ne_eqb c.args.a 0 (λ e. omega arith), ne_eqb c.args.a 1 (λ e. omega arith)) refl

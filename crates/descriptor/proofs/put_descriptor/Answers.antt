@@ -1,8 +1,18 @@
 -- `descriptor::put_descriptor` meets its contract: four writers in a row. Assumes nothing.
-use native.Mathlib.Omega.{arith}
-use Rattle.octets.specs.Filling.{writing_start, writing_fits, writing_next, writing_within, writing_same, writing_end}
-use Rattle.descriptor.specs.DescriptorLaws.{space-most, head-most, range_known, four-parts}
+use Rattle.std.proofs.Common.{◌≡◌, ℕ, ◌+◌, ◌*◌, ◌≤◌, List, [], ◌∷◌, length, arith}
+use Rattle.octets.specs.Bytes.{le}
+use Rattle.octets.specs.Filling.{Writing, writing_start, writing_fits, writing_next, writing_within, writing_same, writing_end}
+use Rattle.descriptor.specs.declared.Columns.{Columns}
+use Rattle.descriptor.specs.Descriptor.{row_of, range_length, descriptor}
+use Rattle.descriptor.specs.Columns.{columns_of}
+use Rattle.descriptor.specs.DescriptorLaws.{Valid, space-most, head-most, range_known, four-parts}
 use Rattle.descriptor.proofs.put_descriptor.Goals as goal
+
+-- before the first of the four
+begun : (kind : ℕ) {c : Columns} → c ≡ columns_of (row_of kind) → {text : List ℕ} {a x : ℕ} → Valid (row_of kind) text a x
+    → {n : ℕ} → n ≡ range_length c.space text → {first : List ℕ} → length (descriptor (row_of kind) text a x) ≤ length first
+    → Writing (descriptor (row_of kind) text a x) (le c.width (c.head + c.unit * a) ∷ le c.tail x ∷ text ∷ le c.space n ∷ []) 0 first first
+begun kind e v en {first} room = writing_start first (four-parts kind e v en) room
 
 pub range_length-n-requires : goal.range_length-n-requires
 range_length-n-requires c = ((space-most c.args.kind c.columns_of-c.ensures).0, range_known c.args.kind c.columns_of-c.ensures c.requires.0)
@@ -15,64 +25,116 @@ overflow_add-c c = omega (arith, head-most c.args.kind c.columns_of-c.ensures c.
 
 pub put_le-at-requires : goal.put_le-at-requires
 put_le-at-requires c =
-    writing_fits (writing_start c.args.out.now (four-parts c.args.kind c.columns_of-c.ensures c.requires.0 c.range_length-n.ensures) c.requires.1)
+    let h0 = begun c.args.kind c.columns_of-c.ensures c.requires.0 c.range_length-n.ensures c.requires.1 in
+    writing_fits h0
 
 pub overflow_add-at : goal.overflow_add-at
 overflow_add-at c =
-    omega (arith, (writing_next (writing_start c.args.out.now (four-parts c.args.kind c.columns_of-c.ensures c.requires.0 c.range_length-n.ensures) c.requires.1) c.put_le-at.ensures))
+    let h0 = begun c.args.kind c.columns_of-c.ensures c.requires.0 c.range_length-n.ensures c.requires.1 in
+    let h1 = writing_next h0 c.put_le-at.ensures in
+    omega (arith, h1)
 
 pub slice_bounds-put_le-count-2 : goal.slice_bounds-put_le-count-2
 slice_bounds-put_le-count-2 c =
-    writing_within (writing_next (writing_start c.args.out.now (four-parts c.args.kind c.columns_of-c.ensures c.requires.0 c.range_length-n.ensures) c.requires.1) c.put_le-at.ensures)
+    let h0 = begun c.args.kind c.columns_of-c.ensures c.requires.0 c.range_length-n.ensures c.requires.1 in
+    let h1 = writing_next h0 c.put_le-at.ensures in
+    writing_within h1
 
 pub slice_bounds-put_le-start-2 : goal.slice_bounds-put_le-start-2
 slice_bounds-put_le-start-2 c =
-    writing_within (writing_next (writing_start c.args.out.now (four-parts c.args.kind c.columns_of-c.ensures c.requires.0 c.range_length-n.ensures) c.requires.1) c.put_le-at.ensures)
+    let h0 = begun c.args.kind c.columns_of-c.ensures c.requires.0 c.range_length-n.ensures c.requires.1 in
+    let h1 = writing_next h0 c.put_le-at.ensures in
+    writing_within h1
 
 pub put_le-at-requires-2 : goal.put_le-at-requires-2
 put_le-at-requires-2 c =
-    writing_fits (writing_next (writing_start c.args.out.now (four-parts c.args.kind c.columns_of-c.ensures c.requires.0 c.range_length-n.ensures) c.requires.1) c.put_le-at.ensures)
+    let h0 = begun c.args.kind c.columns_of-c.ensures c.requires.0 c.range_length-n.ensures c.requires.1 in
+    let h1 = writing_next h0 c.put_le-at.ensures in
+    writing_fits h1
 
 pub overflow_add-at-2 : goal.overflow_add-at-2
 overflow_add-at-2 c =
-    omega (arith, (writing_next (writing_next (writing_start c.args.out.now (four-parts c.args.kind c.columns_of-c.ensures c.requires.0 c.range_length-n.ensures) c.requires.1) c.put_le-at.ensures) c.put_le-at-2.ensures))
+    let h0 = begun c.args.kind c.columns_of-c.ensures c.requires.0 c.range_length-n.ensures c.requires.1 in
+    let h1 = writing_next h0 c.put_le-at.ensures in
+    let h2 = writing_next h1 c.put_le-at-2.ensures in
+    omega (arith, h2)
 
 pub slice_bounds-put_slice-count : goal.slice_bounds-put_slice-count
 slice_bounds-put_slice-count c =
-    writing_within (writing_next (writing_next (writing_start c.args.out.now (four-parts c.args.kind c.columns_of-c.ensures c.requires.0 c.range_length-n.ensures) c.requires.1) c.put_le-at.ensures) c.put_le-at-2.ensures)
+    let h0 = begun c.args.kind c.columns_of-c.ensures c.requires.0 c.range_length-n.ensures c.requires.1 in
+    let h1 = writing_next h0 c.put_le-at.ensures in
+    let h2 = writing_next h1 c.put_le-at-2.ensures in
+    writing_within h2
 
 pub slice_bounds-put_slice-start : goal.slice_bounds-put_slice-start
 slice_bounds-put_slice-start c =
-    writing_within (writing_next (writing_next (writing_start c.args.out.now (four-parts c.args.kind c.columns_of-c.ensures c.requires.0 c.range_length-n.ensures) c.requires.1) c.put_le-at.ensures) c.put_le-at-2.ensures)
+    let h0 = begun c.args.kind c.columns_of-c.ensures c.requires.0 c.range_length-n.ensures c.requires.1 in
+    let h1 = writing_next h0 c.put_le-at.ensures in
+    let h2 = writing_next h1 c.put_le-at-2.ensures in
+    writing_within h2
 
 pub put_slice-at-requires : goal.put_slice-at-requires
 put_slice-at-requires c =
-    writing_fits (writing_next (writing_next (writing_start c.args.out.now (four-parts c.args.kind c.columns_of-c.ensures c.requires.0 c.range_length-n.ensures) c.requires.1) c.put_le-at.ensures) c.put_le-at-2.ensures)
+    let h0 = begun c.args.kind c.columns_of-c.ensures c.requires.0 c.range_length-n.ensures c.requires.1 in
+    let h1 = writing_next h0 c.put_le-at.ensures in
+    let h2 = writing_next h1 c.put_le-at-2.ensures in
+    writing_fits h2
 
 pub overflow_add-at-3 : goal.overflow_add-at-3
 overflow_add-at-3 c =
-    omega (arith, (writing_next (writing_next (writing_next (writing_start c.args.out.now (four-parts c.args.kind c.columns_of-c.ensures c.requires.0 c.range_length-n.ensures) c.requires.1) c.put_le-at.ensures) c.put_le-at-2.ensures) c.put_slice-at.ensures))
+    let h0 = begun c.args.kind c.columns_of-c.ensures c.requires.0 c.range_length-n.ensures c.requires.1 in
+    let h1 = writing_next h0 c.put_le-at.ensures in
+    let h2 = writing_next h1 c.put_le-at-2.ensures in
+    let h3 = writing_next h2 c.put_slice-at.ensures in
+    omega (arith, h3)
 
 pub slice_bounds-put_le-count-3 : goal.slice_bounds-put_le-count-3
 slice_bounds-put_le-count-3 c =
-    writing_within (writing_next (writing_next (writing_next (writing_start c.args.out.now (four-parts c.args.kind c.columns_of-c.ensures c.requires.0 c.range_length-n.ensures) c.requires.1) c.put_le-at.ensures) c.put_le-at-2.ensures) c.put_slice-at.ensures)
+    let h0 = begun c.args.kind c.columns_of-c.ensures c.requires.0 c.range_length-n.ensures c.requires.1 in
+    let h1 = writing_next h0 c.put_le-at.ensures in
+    let h2 = writing_next h1 c.put_le-at-2.ensures in
+    let h3 = writing_next h2 c.put_slice-at.ensures in
+    writing_within h3
 
 pub slice_bounds-put_le-start-3 : goal.slice_bounds-put_le-start-3
 slice_bounds-put_le-start-3 c =
-    writing_within (writing_next (writing_next (writing_next (writing_start c.args.out.now (four-parts c.args.kind c.columns_of-c.ensures c.requires.0 c.range_length-n.ensures) c.requires.1) c.put_le-at.ensures) c.put_le-at-2.ensures) c.put_slice-at.ensures)
+    let h0 = begun c.args.kind c.columns_of-c.ensures c.requires.0 c.range_length-n.ensures c.requires.1 in
+    let h1 = writing_next h0 c.put_le-at.ensures in
+    let h2 = writing_next h1 c.put_le-at-2.ensures in
+    let h3 = writing_next h2 c.put_slice-at.ensures in
+    writing_within h3
 
 pub put_le-at-requires-3 : goal.put_le-at-requires-3
 put_le-at-requires-3 c =
-    writing_fits (writing_next (writing_next (writing_next (writing_start c.args.out.now (four-parts c.args.kind c.columns_of-c.ensures c.requires.0 c.range_length-n.ensures) c.requires.1) c.put_le-at.ensures) c.put_le-at-2.ensures) c.put_slice-at.ensures)
+    let h0 = begun c.args.kind c.columns_of-c.ensures c.requires.0 c.range_length-n.ensures c.requires.1 in
+    let h1 = writing_next h0 c.put_le-at.ensures in
+    let h2 = writing_next h1 c.put_le-at-2.ensures in
+    let h3 = writing_next h2 c.put_slice-at.ensures in
+    writing_fits h3
 
 pub overflow_add-at-4 : goal.overflow_add-at-4
 overflow_add-at-4 c =
-    omega (arith, (writing_next (writing_next (writing_next (writing_next (writing_start c.args.out.now (four-parts c.args.kind c.columns_of-c.ensures c.requires.0 c.range_length-n.ensures) c.requires.1) c.put_le-at.ensures) c.put_le-at-2.ensures) c.put_slice-at.ensures) c.put_le-at-3.ensures))
+    let h0 = begun c.args.kind c.columns_of-c.ensures c.requires.0 c.range_length-n.ensures c.requires.1 in
+    let h1 = writing_next h0 c.put_le-at.ensures in
+    let h2 = writing_next h1 c.put_le-at-2.ensures in
+    let h3 = writing_next h2 c.put_slice-at.ensures in
+    let h4 = writing_next h3 c.put_le-at-3.ensures in
+    omega (arith, h4)
 
 pub shape_of-out : goal.shape_of-out
 shape_of-out c =
-    writing_same (writing_next (writing_next (writing_next (writing_next (writing_start c.args.out.now (four-parts c.args.kind c.columns_of-c.ensures c.requires.0 c.range_length-n.ensures) c.requires.1) c.put_le-at.ensures) c.put_le-at-2.ensures) c.put_slice-at.ensures) c.put_le-at-3.ensures)
+    let h0 = begun c.args.kind c.columns_of-c.ensures c.requires.0 c.range_length-n.ensures c.requires.1 in
+    let h1 = writing_next h0 c.put_le-at.ensures in
+    let h2 = writing_next h1 c.put_le-at-2.ensures in
+    let h3 = writing_next h2 c.put_slice-at.ensures in
+    let h4 = writing_next h3 c.put_le-at-3.ensures in
+    writing_same h4
 
 pub returns : goal.returns
 returns c =
-    writing_end (writing_next (writing_next (writing_next (writing_next (writing_start c.args.out.now (four-parts c.args.kind c.columns_of-c.ensures c.requires.0 c.range_length-n.ensures) c.requires.1) c.put_le-at.ensures) c.put_le-at-2.ensures) c.put_slice-at.ensures) c.put_le-at-3.ensures)
+    let h0 = begun c.args.kind c.columns_of-c.ensures c.requires.0 c.range_length-n.ensures c.requires.1 in
+    let h1 = writing_next h0 c.put_le-at.ensures in
+    let h2 = writing_next h1 c.put_le-at-2.ensures in
+    let h3 = writing_next h2 c.put_slice-at.ensures in
+    let h4 = writing_next h3 c.put_le-at-3.ensures in
+    writing_end h4

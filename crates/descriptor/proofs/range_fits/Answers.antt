@@ -1,28 +1,24 @@
 -- `descriptor::range_fits` meets its contract, by where max - min stands. Assumes nothing.
-use native.Mathlib.Omega.{arith}
-use Rattle.descriptor.specs.DescriptorLaws.{range_under, range_over, range_bus, range_free}
+use Rattle.std.proofs.Common.{◌∙◌, sym, arith, leb→le}
+use Rattle.octets.specs.Tests.{true_test}
+use Rattle.descriptor.specs.DescriptorLaws.{range_under, range_wide, range_not_wide}
+use Rattle.descriptor.proofs.range_fits.Goals.{then-min-max, else-min-max}
 use Rattle.descriptor.proofs.range_fits.Goals as goal
 
-pub get_le-min-requires : goal.get_le-min-requires
-get_le-min-requires c = (c.requires.0, omega arith)
-
-pub get_le-max-requires : goal.get_le-max-requires
-get_le-max-requires c = (c.requires.0, omega arith)
-
 pub returns-then-max-min : goal.returns-then-max-min
-returns-then-max-min c = range_under _ _ _ c.get_le-min.ensures.is c.get_le-max.ensures.is c.if-max-min.true
+returns-then-max-min c =
+    let lo = c.get_le-min.ensures.is in
+    let hi = c.get_le-max.ensures.is in
+    elim c.if-min-max.branch [
+      | then-min-max w ↦ c.bus_fits.ensures ∙ range_wide _ _ _ lo hi w.if-min-max.true c.requires.2 (sym w.value-is ∙ c.if-max-min.true)
+      | else-min-max w ↦ absurd (omega (arith, w.if-min-max.false, leb→le _ _ (true_test _ (sym w.value-is ∙ c.if-max-min.true))))
+    ]
 
-pub returns-then-full-max : goal.returns-then-full-max
-returns-then-full-max c =
-    range_over _ _ _ c.get_le-min.ensures.is c.get_le-max.ensures.is c.if-max-min.false c.requires.2 c.if-full-max.true
-
-pub get_le-translation-requires : goal.get_le-translation-requires
-get_le-translation-requires c = (c.requires.0, omega arith)
-
-pub returns-then-a-eq2 : goal.returns-then-a-eq2
-returns-then-a-eq2 c =
-    range_bus _ _ _ c.get_le-min.ensures.is c.get_le-max.ensures.is c.if-max-min.false c.requires.2 c.if-full-max.false c.if-a-eq2.true c.get_le-translation.ensures.is
-
-pub returns : goal.returns
-returns c =
-    range_free _ _ _ c.get_le-min.ensures.is c.get_le-max.ensures.is c.if-max-min.false c.requires.2 c.if-full-max.false c.if-a-eq2.false
+pub returns-else-max-min : goal.returns-else-max-min
+returns-else-max-min c =
+    let lo = c.get_le-min.ensures.is in
+    let hi = c.get_le-max.ensures.is in
+    elim c.if-min-max.branch [
+      | then-min-max w ↦ c.if-max-min.false ∙ range_not_wide _ _ _ lo hi w.if-min-max.true c.requires.2 (sym w.value-is ∙ c.if-max-min.false)
+      | else-min-max w ↦ c.if-max-min.false ∙ range_under _ _ _ lo hi w.if-min-max.false
+    ]

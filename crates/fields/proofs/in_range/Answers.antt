@@ -1,9 +1,12 @@
 -- `fields::in_range` meets its contract: the numbers' test and the text's. Assumes nothing.
-use mathlib.Core.Path.{◌∙◌, ap₂}
-use mathlib.Core.Bool.{◌&&◌}
+use Rattle.std.proofs.Common.{sym, ◌∙◌}
 use Rattle.fields.specs.Fields.{in_range}
 use Rattle.fields.proofs.in_range.Goals as goal
 
-pub returns : goal.returns
+pub returns-then-numbers_fit : goal.returns-then-numbers_fit
 unfolding in_range
-returns c = c.both.ensures ∙ ap₂ ◌&&◌ c.numbers_fit.ensures c.text_fits.ensures
+returns-then-numbers_fit c = rw (sym c.numbers_fit.ensures ∙ c.if-numbers_fit.true) c.text_fits.ensures
+
+pub returns-else-numbers_fit : goal.returns-else-numbers_fit
+unfolding in_range
+returns-else-numbers_fit c = rw (sym c.numbers_fit.ensures ∙ c.if-numbers_fit.false) c.if-numbers_fit.false

@@ -1,17 +1,15 @@
 -- `fields::is_ascii` meets its contract: what was seen and the bytes that are left decide (`Looking`). Assumes nothing.
-use mathlib.Core.Path.{refl}
+use Rattle.std.proofs.Common.{refl}
 use Rattle.fields.specs.Fields.{ascii}
 use Rattle.fields.proofs.Looking.{looking_turn, looking_end}
 use Rattle.fields.proofs.is_ascii.Goals as goal
 
-pub loop-i-init : goal.loop-i-init
-unfolding ascii
-loop-i-init c = record { left = refl }
+pub loop-byte-init : goal.loop-byte-init
+loop-byte-init c = record { left = refl }
 
-pub loop-i-preserved : goal.loop-i-preserved
+pub loop-byte-preserved : goal.loop-byte-preserved
 unfolding ascii
-loop-i-preserved c = looking_turn c.loop-i.invariant c.loop-i-test.true c.between.ensures c.both-fine.ensures
+loop-byte-preserved c = looking_turn c.loop-byte.invariant c.loop-byte-test.true refl refl
 
 pub returns : goal.returns
-unfolding ascii
-returns c = looking_end c.loop-i.invariant c.loop-i-test.false
+returns c = looking_end c.loop-byte.invariant c.loop-byte-test.false

@@ -21,7 +21,7 @@ other DescriptorText kind t a x h g = absurd (g refl)
 
 pub returns-in-Unused : goal.returns-in-Unused
 unfolding text_fits
-returns-in-Unused c = rw c.in-Unused.is refl
+returns-in-Unused c = rw c.in-Unused.is c.is_empty.ensures
 
 pub returns-in-DescriptorText : goal.returns-in-DescriptorText
 unfolding text_fits

@@ -1,31 +1,21 @@
 -- `fields::text_spelled` meets its contract, by the kind of text; a segment is tested by its length and its four bytes. Assumes nothing.
-use mathlib.Core.Path.{◌≡◌, refl, sym, ◌∙◌}
-use mathlib.Core.Bool.{Bool, true, false, ◌&&◌}
-use mathlib.Core.List.{List}
-use Prim.Native.Nat.{ℕ}
-use borrow.Author.Tests.{eqb-true, eqb-false}
-use lib.Dec.{eqb}
-use lib.ListN.{length}
-use Rattle.path.specs.Path.{segment}
+use Rattle.std.proofs.Common.{refl, sym, ◌∙◌, ne_eqb}
 use Rattle.path.specs.PathLaws.{segment_not}
-use Rattle.path.specs.PathText.{segment_at, segment-whole}
+use Rattle.path.specs.PathText.{segment-whole}
 use Rattle.fields.specs.Fields.{text_spelled}
 use Rattle.fields.proofs.text_spelled.Goals as goal
-
-one-segment : (t : List ℕ) {r s : Bool} → r ≡ segment_at t 0 → s ≡ (eqb (length t) 4 && r) → s ≡ segment t
-one-segment t {r} {s} e f = f ∙ go (eqb (length t) 4) refl
-  where
-    go : (b : Bool) → eqb (length t) 4 ≡ b → b && r ≡ segment t
-    go true h = e ∙ segment-whole t (eqb-true (length t) 4 h)
-    go false h = sym (segment_not t (eqb-false (length t) 4 h))
 
 pub returns-in-PathText : goal.returns-in-PathText
 unfolding text_spelled
 returns-in-PathText c = rw c.in-PathText.is c.is_path.ensures
 
-pub returns-in-SegmentText : goal.returns-in-SegmentText
+pub returns-then-t-eq4 : goal.returns-then-t-eq4
 unfolding text_spelled
-returns-in-SegmentText c = rw c.in-SegmentText.is (one-segment _ c.is_segment.ensures c.both.ensures)
+returns-then-t-eq4 c = rw c.in-SegmentText.is (c.is_segment.ensures ∙ segment-whole _ c.if-t-eq4.true)
+
+pub returns-else-t-eq4 : goal.returns-else-t-eq4
+unfolding text_spelled
+returns-else-t-eq4 c = rw c.in-SegmentText.is (ne_eqb _ 4 c.if-t-eq4.false ∙ sym (segment_not _ c.if-t-eq4.false))
 
 pub returns-in-Ascii : goal.returns-in-Ascii
 unfolding text_spelled

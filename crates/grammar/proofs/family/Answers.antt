@@ -1,6 +1,5 @@
--- `grammar::family` meets its contract: the entries, as the function's first step makes them, are the families of the 256 bytes.
--- Assumes nothing.
-use mathlib.Core.Path.{refl}
+-- `grammar::family` meets its contract: the static's entries are the families of the 256 bytes. Assumes nothing.
+use Rattle.std.specs.Prelude.{refl}
 use Rattle.octets.specs.Bytes.{value}
 use Rattle.path.specs.Path.{lead_name}
 use Rattle.path.specs.Get.{name_start}

@@ -1,5 +1,5 @@
 -- `grammar::last_at` meets its contract: the digits of the column. Assumes nothing.
-use mathlib.Core.Path.{refl}
+use Rattle.std.specs.Prelude.{refl}
 use Rattle.grammar.specs.Packed.{unpack}
 use Rattle.grammar.proofs.PackedLaws.{row-packed}
 use Rattle.grammar.proofs.last_at.Goals as goal

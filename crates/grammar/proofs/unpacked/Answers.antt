@@ -4,4 +4,6 @@ use Rattle.grammar.proofs.unpacked.Goals as goal
 
 pub returns : goal.returns
 returns c =
-    row_made _ c.second_of-v.ensures c.third_of-x.ensures c.text_of-text.ensures c.numbers_of-numbers.ensures c.place_of-operand.ensures c.rest_of-rest.ensures c.place_of-place.ensures c.places_of-places.ensures
+    let text = c.text_of-text.ensures in
+    let numbers = c.numbers_of-numbers.ensures in
+    row_made _ c.second_of-v.ensures c.third_of-x.ensures text numbers c.place_of-operand.ensures c.rest_of-rest.ensures c.place_of-place.ensures c.places_of-places.ensures

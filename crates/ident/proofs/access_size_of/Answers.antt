@@ -1,17 +1,24 @@
--- `ident::access_size_of` meets its contract: the codes of 1 and 2 are themselves, and beyond them 4 and 8 have one. Assumes nothing.
-use mathlib.Core.Path.{refl}
-use borrow.Author.Tests.{eq-eqb, ne_eqb}
-use Rattle.ident.specs.GasLaws.{access_small, access_large}
+-- `ident::access_size_of` meets its contract: four widths have a code, and no other. Assumes nothing.
+use Rattle.std.proofs.Common.{refl, arith}
+use Rattle.ident.specs.Gas.{access_size}
+use Rattle.ident.specs.GasLaws.{access_none}
 use Rattle.ident.proofs.access_size_of.Goals as goal
 
-pub returns-then-width-le2 : goal.returns-then-width-le2
-returns-then-width-le2 c = access_small _ c.if-width-le2.true
+pub returns-in-1 : goal.returns-in-1
+unfolding access_size
+returns-in-1 c = rw c.in-1.is (refl, omega arith)
 
-pub returns-then-width-eq4 : goal.returns-then-width-eq4
-returns-then-width-eq4 c = rw (access_large _ c.if-width-le2.false, eq-eqb _ 4 c.if-width-eq4.true) refl
+pub returns-in-2 : goal.returns-in-2
+unfolding access_size
+returns-in-2 c = rw c.in-2.is (refl, omega arith)
 
-pub returns-then-width-eq8 : goal.returns-then-width-eq8
-returns-then-width-eq8 c = rw (access_large _ c.if-width-le2.false, ne_eqb _ 4 c.if-width-eq4.false, eq-eqb _ 8 c.if-width-eq8.true) refl
+pub returns-in-4 : goal.returns-in-4
+unfolding access_size
+returns-in-4 c = rw c.in-4.is (refl, omega arith)
 
-pub returns-else-width-eq8 : goal.returns-else-width-eq8
-returns-else-width-eq8 c = rw (access_large _ c.if-width-le2.false, ne_eqb _ 4 c.if-width-eq4.false, ne_eqb _ 8 c.if-width-eq8.false) refl
+pub returns-in-8 : goal.returns-in-8
+unfolding access_size
+returns-in-8 c = rw c.in-8.is (refl, omega arith)
+
+pub returns-in_default : goal.returns-in_default
+returns-in_default c = (refl, access_none _ (λ e. omega arith) (λ e. omega arith) (λ e. omega arith) (λ e. omega arith))

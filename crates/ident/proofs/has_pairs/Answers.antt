@@ -1,20 +1,13 @@
--- `ident::has_pairs` meets its contract: the places that are left decide (`Testing`). Assumes nothing.
-use mathlib.Core.Bool.{not}
-use mathlib.Core.Path.{ap, ◌∙◌}
+-- `ident::has_pairs` meets its contract: the library tests each place. Assumes nothing.
+use Rattle.std.proofs.Common.{◌∙◌, rules}
+use Rattle.std.proofs.lemmas.Iterator.{YieldsList-from_slice}
+use Rattle.std.proofs.lemmas.Iterator.Search.{all_from_yields_List}
+use Rattle.ident.specs.Ident.{uuid_places}
 use Rattle.ident.specs.Parts.{is_pair}
-use Rattle.ident.specs.Each.{testing_start, testing_not, testing_turn, testing_end}
+use Rattle.ident.specs.Each.{list_all-every}
 use Rattle.ident.proofs.has_pairs.Goals as goal
 
-pub loop-k-init : goal.loop-k-init
-loop-k-init c = testing_start
-
-pub returns-then-not-is_pair : goal.returns-then-not-is_pair
-returns-then-not-is_pair c =
-    testing_not c.loop-k.invariant c.loop-k-test.true (c.is_pair.ensures ∙ ap (is_pair c.args.t.now) c.place.ensures.0) (ap not c.if-not-is_pair.true)
-
-pub loop-k-preserved : goal.loop-k-preserved
-loop-k-preserved c =
-    testing_turn c.loop-k.invariant c.loop-k-test.true (c.is_pair.ensures ∙ ap (is_pair c.args.t.now) c.place.ensures.0) (ap not c.if-not-is_pair.false)
-
 pub returns : goal.returns
-returns c = testing_end c.loop-k.invariant c.loop-k-test.false
+returns c =
+    all_from_yields_List (is_pair c.args.t.now) _ _ _ c.all.ensures.ran (YieldsList-from_slice uuid_places cc) (λ x b q k. search rules)
+    ∙ list_all-every (is_pair c.args.t.now) uuid_places

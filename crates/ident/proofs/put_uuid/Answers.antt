@@ -1,11 +1,10 @@
 -- `ident::put_uuid` meets its contract: the bytes of the places that are left fill the rest (`Filling`). Assumes nothing.
-use mathlib.Core.Path.{refl, ap, ◌∙◌}
-use native.Mathlib.Omega.{arith}
+use Rattle.std.proofs.Common.{refl, ◌≡◌, arith}
 use Rattle.octets.specs.Filling.{filling_start}
 use Rattle.ident.specs.Ident.{uuid_places, uuid_bytes}
 use Rattle.ident.specs.Parts.{pair_byte}
 use Rattle.ident.specs.Each.{map_turn, map_end}
-use Rattle.ident.specs.IdentLaws.{uuid-text-length, pair_at}
+use Rattle.ident.specs.IdentLaws.{place-small, uuid-text-length, pair_at}
 use Rattle.ident.proofs.put_uuid.Goals as goal
 
 pub loop-k-init : goal.loop-k-init
@@ -15,7 +14,8 @@ loop-k-init c = filling_start _ refl c.requires.1
 pub pair_byte-requires : goal.pair_byte-requires
 unfolding uuid_bytes
 pair_byte-requires c =
-    (omega (arith, uuid-text-length c.args.t.now c.requires.0), rw c.place.ensures.0 (pair_at c.args.t.now c.requires.0 c.loop-k.k c.loop-k-test.true))
+    let k = c.loop-k.k in
+    (omega (arith, place-small k c.loop-k-test.true, uuid-text-length c.args.t.now c.requires.0), pair_at c.args.t.now c.requires.0 k c.loop-k-test.true)
 
 pub bounds-out-k : goal.bounds-out-k
 unfolding uuid_bytes
@@ -23,8 +23,7 @@ bounds-out-k c = omega (arith, c.loop-k.invariant.len, c.requires.1)
 
 pub loop-k-preserved : goal.loop-k-preserved
 unfolding uuid_bytes
-loop-k-preserved c =
-    map_turn (pair_byte c.args.t.now) uuid_places c.loop-k-test.true (c.pair_byte.ensures ∙ ap (pair_byte c.args.t.now) c.place.ensures.0) c.loop-k.invariant
+loop-k-preserved c = map_turn (pair_byte c.args.t.now) uuid_places c.loop-k-test.true c.pair_byte.ensures c.loop-k.invariant
 
 pub shape_of-out : goal.shape_of-out
 unfolding uuid_bytes
@@ -32,4 +31,6 @@ shape_of-out c = c.loop-k.invariant.len
 
 pub returns : goal.returns
 unfolding uuid_bytes
-returns c = map_end (pair_byte c.args.t.now) uuid_places c.loop-k.invariant c.loop-k-test.false
+returns c =
+    let e : c.loop-k.k ≡ 16 = omega arith in
+    rw e at (map_end (pair_byte c.args.t.now) uuid_places c.loop-k.invariant c.loop-k-test.false)

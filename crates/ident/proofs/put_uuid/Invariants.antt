@@ -1,6 +1,4 @@
-use mathlib.Core.List.{map}
-use Prim.Native.Nat.{◌-◌}
-use lib.ListN.{drop}
+use Rattle.std.proofs.Common.{map, drop}
 use Rattle.octets.specs.Filling.{Filling}
 use Rattle.ident.specs.Ident.{uuid_places, uuid_bytes}
 use Rattle.ident.specs.Parts.{pair_byte}
@@ -8,6 +6,3 @@ use Rattle.ident.proofs.put_uuid.Given as goal
 
 abbrev pub invariant-loop-k : goal.invariant-loop-k
 invariant-loop-k l = Filling (uuid_bytes l.t) (map (pair_byte l.t) (drop l.k uuid_places)) l.k l.initial.out l.out
-
-abbrev pub decreases-loop-k : goal.decreases-loop-k
-decreases-loop-k l = 16 - l.k

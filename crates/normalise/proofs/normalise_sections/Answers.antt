@@ -1,47 +1,43 @@
 -- `normalise::normalise_sections` meets its contract: refused by the figures, or the file. Assumes nothing.
-use native.Mathlib.Omega.{arith}
+use Rattle.std.proofs.Common.{arith}
+use Rattle.std.proofs.lemmas.Result.{err_from_is_err_and}
 use Rattle.encode.specs.Answer.{figures_within}
 use Rattle.encode.specs.TableLaws.{walked-refused, walked-short, walked-done}
 use Rattle.normalise.specs.SectionLaws.{names_most, all_most, file-size, measured}
 use Rattle.normalise.proofs.normalise_sections.Goals as goal
 
-pub sizes_of-s-requires : goal.sizes_of-s-requires
-sizes_of-s-requires c = (c.requires.sound, omega arith)
-
-pub returns-then-number-ne0 : goal.returns-then-number-ne0
-returns-then-number-ne0 c = walked-refused c.sizes_of-s.ensures c.late_number-number.ensures _ c.args.out.now c.if-number-ne0.true
-
-pub texts_len-names-requires : goal.texts_len-names-requires
-texts_len-names-requires c = (c.requires.few, c.requires.fit)
-
-pub texts_len-texts-requires : goal.texts_len-texts-requires
-texts_len-texts-requires c = c.requires.sound
+pub returns-in_err-late_number : goal.returns-in_err-late_number
+returns-in_err-late_number c =
+    let (f, e, q) = err_from_is_err_and c.from_residual.result c.from_residual.ensures.1 in
+    rw (e, q) (walked-refused (rw c.count.ensures at c.sizes_of-s.ensures) _ c.args.out.now c.in_err-late_number.ensures)
 
 pub overflow_mul-size : goal.overflow_mul-size
-overflow_mul-size c = omega (arith, (figures_within _ _ _ c.late_number-number.ensures c.if-number-ne0.false).0)
+overflow_mul-size c = omega (arith, (figures_within _ _ _ c.in_ok-late_number.ensures).0)
 
 pub overflow_add-size : goal.overflow_add-size
-overflow_add-size c = omega (arith, (figures_within _ _ _ c.late_number-number.ensures c.if-number-ne0.false).0)
+overflow_add-size c = omega (arith, (figures_within _ _ _ c.in_ok-late_number.ensures).0)
 
 pub overflow_add-size-2 : goal.overflow_add-size-2
-overflow_add-size-2 c = omega (arith, (figures_within _ _ _ c.late_number-number.ensures c.if-number-ne0.false).0, c.requires.few)
+overflow_add-size-2 c = omega (arith, (figures_within _ _ _ c.in_ok-late_number.ensures).0, c.requires.few)
 
 pub overflow_add-size-3 : goal.overflow_add-size-3
 overflow_add-size-3 c =
-    omega (arith, (figures_within _ _ _ c.late_number-number.ensures c.if-number-ne0.false).0, names_most c.requires c.texts_len-names.ensures, all_most c.requires c.texts_len-texts.ensures, c.requires.few)
+    omega (arith, names_most c.requires c.texts_len-names.ensures, all_most c.args.terms.now.sound c.texts_len-texts.ensures)
 
 pub overflow_add-size-4 : goal.overflow_add-size-4
 overflow_add-size-4 c =
-    omega (arith, (figures_within _ _ _ c.late_number-number.ensures c.if-number-ne0.false).0, names_most c.requires c.texts_len-names.ensures, all_most c.requires c.texts_len-texts.ensures, c.requires.few)
+    omega (arith, (figures_within _ _ _ c.in_ok-late_number.ensures).0, names_most c.requires c.texts_len-names.ensures, all_most c.args.terms.now.sound c.texts_len-texts.ensures, c.requires.few)
 
 pub returns-then-out-size : goal.returns-then-out-size
 returns-then-out-size c =
-    walked-short c.sizes_of-s.ensures c.late_number-number.ensures _ c.args.out.now (search) (file-size c.requires c.sizes_of-s.ensures c.texts_len-names.ensures c.texts_len-texts.ensures) c.if-out-size.true
+    let m = rw c.count.ensures at c.sizes_of-s.ensures in
+    rw c.into.ensures (walked-short m _ c.args.out.now c.in_ok-late_number.ensures (file-size c.requires m c.texts_len-names.ensures c.texts_len-texts.ensures) c.if-out-size.true)
 
-pub put_file-total-requires : goal.put_file-total-requires
-put_file-total-requires c =
-    measured c.requires c.sizes_of-s.ensures c.texts_len-names.ensures c.texts_len-texts.ensures c.late_number-number.ensures (search) c.args.out.now c.if-out-size.false
+pub put_file-requires : goal.put_file-requires
+put_file-requires c =
+    measured c.requires (rw c.count.ensures at c.sizes_of-s.ensures) c.texts_len-names.ensures c.texts_len-texts.ensures c.in_ok-late_number.ensures c.args.out.now c.if-out-size.false
 
 pub returns : goal.returns
 returns c =
-    walked-done c.sizes_of-s.ensures c.late_number-number.ensures _ c.args.out.now (search) (file-size c.requires c.sizes_of-s.ensures c.texts_len-names.ensures c.texts_len-texts.ensures) (search) c.put_file-total.ensures
+    let m = rw c.count.ensures at c.sizes_of-s.ensures in
+    walked-done m _ c.args.out.now c.in_ok-late_number.ensures (file-size c.requires m c.texts_len-names.ensures c.texts_len-texts.ensures) c.if-out-size.false c.put_file.ensures

@@ -1,5 +1,5 @@
 -- `number::create_pkg_length` meets its contract: its parts are those of the length. Assumes nothing.
-use native.Mathlib.Omega.{arith}
+use Rattle.std.proofs.Common.{arith}
 use Rattle.octets.specs.Filling.{wrote_as}
 use Rattle.number.specs.PkgLengthLaws.{following-most, own-most, lead_small, pkg_length-parts}
 use Rattle.number.proofs.create_pkg_length.Goals as goal

@@ -1,5 +1,5 @@
 -- `number::following_of` meets its contract: its bounds are those of `following`. Assumes nothing.
-use mathlib.Core.Path.{sym, ◌∙◌}
+use Rattle.std.proofs.Common.{sym, ◌∙◌}
 use Rattle.number.specs.PkgLengthLaws.{following-steps}
 use Rattle.number.proofs.following_of.Goals as goal
 

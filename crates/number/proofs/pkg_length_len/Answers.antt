@@ -1,6 +1,5 @@
 -- `number::pkg_length_len` meets its contract: the size is the same for both. Assumes nothing.
-use mathlib.Core.Bool.{true, false}
-use native.Mathlib.Omega.{arith}
+use Rattle.std.proofs.Common.{true, false, arith}
 use Rattle.number.specs.PkgLengthLaws.{following-most, pkg_length-length}
 use Rattle.number.proofs.pkg_length_len.Goals as goal
 

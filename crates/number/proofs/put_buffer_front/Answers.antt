@@ -1,6 +1,5 @@
 -- `number::put_buffer_front` meets its contract: the opcode, the length, the size, one after the other. Assumes nothing.
-use native.Mathlib.Omega.{arith}
-use lib.ListN.{length-set}
+use Rattle.std.proofs.Common.{arith, length-set}
 use Rattle.octets.specs.Filling.{last_fits, last-wrote, last-same}
 use Rattle.number.specs.IntegerLaws.{integer-most}
 use Rattle.number.specs.BufferLaws.{buffer-front-length, front_fits, front_rest}

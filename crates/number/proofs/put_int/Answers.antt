@@ -1,5 +1,5 @@
 -- `number::put_int` meets its contract: its parts are those of the form of x. Assumes nothing.
-use native.Mathlib.Omega.{arith}
+use Rattle.std.proofs.Common.{arith}
 use Rattle.octets.specs.Bytes.{le}
 use Rattle.octets.specs.Filling.{wrote_as}
 use Rattle.number.specs.IntegerLaws.{width-most, integer-short, integer-parts}

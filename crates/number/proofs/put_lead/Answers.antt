@@ -1,6 +1,5 @@
 -- `number::put_lead` meets its contract: a byte is stored, and the digits are laid over what is left. Assumes nothing.
-use native.Mathlib.Omega.{arith}
-use lib.ListN.{length-set}
+use Rattle.std.proofs.Common.{arith, length-set}
 use Rattle.octets.specs.Filling.{last_fits, last-wrote, last-same}
 use Rattle.number.specs.Lead.{lead_filling}
 use Rattle.number.proofs.put_lead.Goals as goal

@@ -1,12 +1,13 @@
 -- `octets::byte_sum` meets its contract. What is added and what is left make the whole (`Summing`). Assumes nothing.
+use Rattle.std.proofs.Common.{refl}
 use Rattle.octets.specs.SumLaws.{summing_start, summing_turn, summing_end}
 use Rattle.octets.proofs.byte_sum.Goals as goal
 
-pub loop-i-init : goal.loop-i-init
-loop-i-init c = summing_start _
+pub loop-byte-init : goal.loop-byte-init
+loop-byte-init c = summing_start _
 
-pub loop-i-preserved : goal.loop-i-preserved
-loop-i-preserved c = summing_turn c.loop-i.invariant c.loop-i-test.true c.wrapping_add_u8-s.ensures.value
+pub loop-byte-preserved : goal.loop-byte-preserved
+loop-byte-preserved c = summing_turn c.loop-byte.invariant c.loop-byte-test.true refl
 
 pub returns : goal.returns
-returns c = summing_end c.loop-i.invariant c.loop-i-test.false
+returns c = summing_end c.loop-byte.invariant c.loop-byte-test.false

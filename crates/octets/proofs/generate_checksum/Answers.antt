@@ -5,4 +5,4 @@ use Rattle.octets.specs.SumLaws.{negated-is}
 use Rattle.octets.proofs.generate_checksum.Goals as goal
 
 pub returns : goal.returns
-returns c = negated-is _ _ c.wrapping_sub_u8.ensures.value (omega arith) ∙ ap negated c.byte_sum.ensures
+returns c = negated-is _ _ (omega arith) (omega arith) ∙ ap negated c.byte_sum.ensures

@@ -9,17 +9,11 @@ loop-i-init c = counting_start _ _ _
 pub overflow_mul-x : goal.overflow_mul-x
 overflow_mul-x c = omega (arith, counting_fits c.loop-i.invariant c.loop-i-test.true c.requires.0)
 
-pub overflow_add-at : goal.overflow_add-at
-overflow_add-at c = omega (arith, c.loop-i.invariant.within)
-
-pub bounds-b-at : goal.bounds-b-at
-bounds-b-at c = omega (arith, c.loop-i.invariant.within)
-
 pub overflow_add-x : goal.overflow_add-x
 overflow_add-x c = omega (arith, counting_fits c.loop-i.invariant c.loop-i-test.true c.requires.0)
 
 pub loop-i-preserved : goal.loop-i-preserved
-loop-i-preserved c = counting_turn c.loop-i.invariant c.loop-i-test.true c.requires.1 _ c.wide.ensures.0 c.wide.ensures.1
+loop-i-preserved c = counting_turn c.loop-i.invariant c.loop-i-test.true c.requires.1 _ c.from.ensures (omega (arith, c.from.ensures))
 
 pub returns : goal.returns
 returns c = counting_end c.loop-i.invariant c.loop-i-test.false

@@ -6,4 +6,4 @@ pub returns-then-b-at : goal.returns-then-b-at
 returns-then-b-at c = reads_short c.if-b-at.true
 
 pub returns : goal.returns
-returns c = reads-digits c.if-b-at.false c.requires.1 c.get_le-value.ensures
+returns c = reads-digits c.if-b-at.false c.requires.1 c.get_le.ensures

@@ -1,7 +1,7 @@
 -- `path::is_path` meets its contract. The characters from `at` on decide the whole (`Chaining`). Assumes nothing.
-use mathlib.Core.Path.{sym, ◌∙◌}
-use native.Mathlib.Omega.{arith}
+use Rattle.std.proofs.Common.{sym, ◌∙◌, arith}
 use Rattle.path.specs.PathText.{root-fits, chaining_long, chaining_start, chaining_end, chaining_dotless, chaining_bad, chaining_turn}
+use Rattle.path.proofs.is_path.Goals.{then-t-at-ne46-via-then-t-at-ne46, then-t-at-ne46-via-else-t-at-ne46+then-not-is_segment}
 use Rattle.path.proofs.is_path.Goals as goal
 
 pub overflow_sub-t : goal.overflow_sub-t
@@ -17,17 +17,16 @@ pub overflow_add-at : goal.overflow_add-at
 overflow_add-at c = omega (arith, c.loop-at.invariant.within, c.loop-at.invariant.short)
 
 pub returns-then-t-at-ne46 : goal.returns-then-t-at-ne46
-returns-then-t-at-ne46 c = chaining_dotless c.loop-at.invariant c.loop-at-test.true c.if-t-at-ne46.true
-
-pub overflow_add-at-then-is_segment : goal.overflow_add-at-then-is_segment
-overflow_add-at-then-is_segment c = omega (arith, c.loop-at.invariant.within, c.loop-at.invariant.short)
+returns-then-t-at-ne46 c =
+    elim c.then-t-at-ne46.branch [
+      | then-t-at-ne46-via-then-t-at-ne46 w ↦ chaining_dotless c.loop-at.invariant c.loop-at-test.true w.if-t-at-ne46.true
+      | then-t-at-ne46-via-else-t-at-ne46+then-not-is_segment w ↦
+          chaining_bad c.loop-at.invariant c.loop-at-test.true (sym w.is_segment.ensures ∙ w.if-not-is_segment.true)
+    ]
 
 pub loop-at-preserved : goal.loop-at-preserved
 loop-at-preserved c =
-    chaining_turn c.loop-at.invariant c.loop-at-test.true c.if-t-at-ne46.false (sym c.is_segment.ensures ∙ c.if-is_segment.true)
-
-pub returns-else-is_segment : goal.returns-else-is_segment
-returns-else-is_segment c = chaining_bad c.loop-at.invariant c.loop-at-test.true (sym c.is_segment.ensures ∙ c.if-is_segment.false)
+    chaining_turn c.loop-at.invariant c.loop-at-test.true c.if-t-at-ne46.false (sym c.is_segment.ensures ∙ c.if-not-is_segment.false)
 
 pub returns : goal.returns
 returns c = c.is_segment-2.ensures ∙ chaining_end c.loop-at.invariant c.loop-at-test.false

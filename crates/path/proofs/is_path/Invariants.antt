@@ -1,5 +1,4 @@
-use Prim.Native.Nat.{◌-◌}
-use lib.ListN.{length}
+use Rattle.std.proofs.Common.{◌-◌, length}
 use Rattle.path.specs.PathText.{Chaining}
 use Rattle.path.proofs.is_path.Given as goal
 

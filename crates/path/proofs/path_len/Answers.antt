@@ -1,5 +1,5 @@
 -- `path::path_len` meets its contract: by the length of the text. Assumes nothing.
-use native.Mathlib.Omega.{arith}
+use Rattle.std.proofs.Common.{arith}
 use Rattle.path.specs.PathLaws.{path-most}
 use Rattle.path.specs.PathWriting.{path-size}
 use Rattle.path.proofs.path_len.Goals as goal

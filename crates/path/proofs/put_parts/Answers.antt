@@ -1,37 +1,52 @@
 -- `path::put_parts` meets its contract: the first segment and the others behind it. Assumes nothing.
-use native.Mathlib.Omega.{arith}
+use Rattle.std.proofs.Common.{arith}
 use Rattle.octets.specs.Filling.{filling_start, filling_fits, filling_lent, last_fits, last-wrote, last-same}
 use Rattle.path.specs.PathWriting.{four, strung-is}
 use Rattle.path.proofs.put_parts.Goals as goal
 
 pub put_slice-at-requires : goal.put_slice-at-requires
 put_slice-at-requires c =
-    filling_fits (four c.args.b.now c.args.from) _ (filling_start c.args.out.now (strung-is c.args.b.now c.args.skip c.args.dots c.args.from c.args.n) c.requires.2)
+    let start = filling_start c.args.out.now (strung-is c.args.b.now c.args.skip c.args.dots c.args.from c.args.n) c.requires.2 in
+    filling_fits (four c.args.b.now c.args.from) _ start
 
 pub overflow_add-at : goal.overflow_add-at
 overflow_add-at c =
-    let h = (filling_lent _ _ (filling_start c.args.out.now (strung-is c.args.b.now c.args.skip c.args.dots c.args.from c.args.n) c.requires.2) c.put_slice-at.ensures) in omega (arith, h.within, h.len)
+    let start = filling_start c.args.out.now (strung-is c.args.b.now c.args.skip c.args.dots c.args.from c.args.n) c.requires.2 in
+    let first = filling_lent _ _ start c.put_slice-at.ensures in
+    let h = first in omega (arith, h.within, h.len)
 
 pub slice_bounds-put_spaced-count : goal.slice_bounds-put_spaced-count
 slice_bounds-put_spaced-count c =
-    (filling_lent _ _ (filling_start c.args.out.now (strung-is c.args.b.now c.args.skip c.args.dots c.args.from c.args.n) c.requires.2) c.put_slice-at.ensures).within
+    let start = filling_start c.args.out.now (strung-is c.args.b.now c.args.skip c.args.dots c.args.from c.args.n) c.requires.2 in
+    let first = filling_lent _ _ start c.put_slice-at.ensures in
+    first.within
 
 pub slice_bounds-put_spaced-start : goal.slice_bounds-put_spaced-start
 slice_bounds-put_spaced-start c =
-    (filling_lent _ _ (filling_start c.args.out.now (strung-is c.args.b.now c.args.skip c.args.dots c.args.from c.args.n) c.requires.2) c.put_slice-at.ensures).within
+    let start = filling_start c.args.out.now (strung-is c.args.b.now c.args.skip c.args.dots c.args.from c.args.n) c.requires.2 in
+    let first = filling_lent _ _ start c.put_slice-at.ensures in
+    first.within
 
 pub put_spaced-at-requires : goal.put_spaced-at-requires
 put_spaced-at-requires c =
-    (c.requires.1, last_fits (filling_lent _ _ (filling_start c.args.out.now (strung-is c.args.b.now c.args.skip c.args.dots c.args.from c.args.n) c.requires.2) c.put_slice-at.ensures))
+    let start = filling_start c.args.out.now (strung-is c.args.b.now c.args.skip c.args.dots c.args.from c.args.n) c.requires.2 in
+    let first = filling_lent _ _ start c.put_slice-at.ensures in
+    (c.requires.1, last_fits first)
 
 pub overflow_add-at-2 : goal.overflow_add-at-2
 overflow_add-at-2 c =
-    let w = last-wrote (filling_lent _ _ (filling_start c.args.out.now (strung-is c.args.b.now c.args.skip c.args.dots c.args.from c.args.n) c.requires.2) c.put_slice-at.ensures) c.put_spaced-at.ensures in omega (arith, w.count, c.requires.2)
+    let start = filling_start c.args.out.now (strung-is c.args.b.now c.args.skip c.args.dots c.args.from c.args.n) c.requires.2 in
+    let first = filling_lent _ _ start c.put_slice-at.ensures in
+    let w = last-wrote first c.put_spaced-at.ensures in omega (arith, w.count, c.requires.2)
 
 pub shape_of-out : goal.shape_of-out
 shape_of-out c =
-    last-same (filling_lent _ _ (filling_start c.args.out.now (strung-is c.args.b.now c.args.skip c.args.dots c.args.from c.args.n) c.requires.2) c.put_slice-at.ensures) c.put_spaced-at.ensures
+    let start = filling_start c.args.out.now (strung-is c.args.b.now c.args.skip c.args.dots c.args.from c.args.n) c.requires.2 in
+    let first = filling_lent _ _ start c.put_slice-at.ensures in
+    last-same first c.put_spaced-at.ensures
 
 pub returns : goal.returns
 returns c =
-    last-wrote (filling_lent _ _ (filling_start c.args.out.now (strung-is c.args.b.now c.args.skip c.args.dots c.args.from c.args.n) c.requires.2) c.put_slice-at.ensures) c.put_spaced-at.ensures
+    let start = filling_start c.args.out.now (strung-is c.args.b.now c.args.skip c.args.dots c.args.from c.args.n) c.requires.2 in
+    let first = filling_lent _ _ start c.put_slice-at.ensures in
+    last-wrote first c.put_spaced-at.ensures

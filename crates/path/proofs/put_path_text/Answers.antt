@@ -1,59 +1,85 @@
 -- `path::put_path_text` meets its contract: the root mark and the segments make the text, where a path stands. Assumes nothing.
-use native.Mathlib.Omega.{arith}
+use Rattle.std.proofs.Common.{refl, arith}
 use Rattle.octets.specs.Reading.{got, got-none}
-use Rattle.octets.specs.Filling.{writing_start, writing_fits, writing_next, writing_within, writing_same, writing_end}
-use Rattle.path.specs.PathWriting.{text_at_lem, text_in-parts, no_text}
+use Rattle.octets.specs.Filling.{writing_fits, writing_next, writing_within, writing_same, writing_end}
+use Rattle.path.specs.PathWriting.{text_at_lem, text_writing, no_text}
 use Rattle.path.proofs.put_path_text.Goals as goal
 
 pub overflow_sub-n : goal.overflow_sub-n
-overflow_sub-n c = omega (arith, (text_at_lem (got c.in-Some.is c.path_at-found.ensures) c.root_at-k.ensures))
+overflow_sub-n c = omega (arith, (text_at_lem (got refl c.in-Some.ensures) c.root_at-k.ensures))
 
 pub overflow_add-n : goal.overflow_add-n
-overflow_add-n c = omega (arith, (text_at_lem (got c.in-Some.is c.path_at-found.ensures) c.root_at-k.ensures))
+overflow_add-n c = omega (arith, (text_at_lem (got refl c.in-Some.ensures) c.root_at-k.ensures))
 
 pub overflow_add-at : goal.overflow_add-at
-overflow_add-at c = omega (arith, (text_at_lem (got c.in-Some.is c.path_at-found.ensures) c.root_at-k.ensures))
+overflow_add-at c = omega (arith, (text_at_lem (got refl c.in-Some.ensures) c.root_at-k.ensures))
 
 pub slice_bounds-put_slice-end : goal.slice_bounds-put_slice-end
-slice_bounds-put_slice-end c = (text_at_lem (got c.in-Some.is c.path_at-found.ensures) c.root_at-k.ensures).mark
+slice_bounds-put_slice-end c = (text_at_lem (got refl c.in-Some.ensures) c.root_at-k.ensures).mark
 
 pub put_slice-end-requires : goal.put_slice-end-requires
 put_slice-end-requires c =
-    writing_fits (writing_start c.args.out.now (text_in-parts (text_at_lem (got c.in-Some.is c.path_at-found.ensures) c.root_at-k.ensures)) c.requires)
+    let stands = text_at_lem (got refl c.in-Some.ensures) c.root_at-k.ensures in
+    let start = text_writing stands c.args.out.now c.requires in
+    writing_fits start
 
 pub overflow_add-end : goal.overflow_add-end
 overflow_add-end c =
-    omega (arith, (writing_next (writing_start c.args.out.now (text_in-parts (text_at_lem (got c.in-Some.is c.path_at-found.ensures) c.root_at-k.ensures)) c.requires) c.put_slice-end.ensures))
+    let stands = text_at_lem (got refl c.in-Some.ensures) c.root_at-k.ensures in
+    let start = text_writing stands c.args.out.now c.requires in
+    let marked = writing_next start c.put_slice-end.ensures in
+    omega (arith, marked)
 
 pub overflow_mul-n : goal.overflow_mul-n
-overflow_mul-n c = omega (arith, (text_at_lem (got c.in-Some.is c.path_at-found.ensures) c.root_at-k.ensures))
+overflow_mul-n c = omega (arith, (text_at_lem (got refl c.in-Some.ensures) c.root_at-k.ensures))
 
 pub overflow_sub-next : goal.overflow_sub-next
-overflow_sub-next c = (text_at_lem (got c.in-Some.is c.path_at-found.ensures) c.root_at-k.ensures).behind
+overflow_sub-next c = (text_at_lem (got refl c.in-Some.ensures) c.root_at-k.ensures).behind
 
 pub slice_bounds-put_parts-count : goal.slice_bounds-put_parts-count
 slice_bounds-put_parts-count c =
-    writing_within (writing_next (writing_start c.args.out.now (text_in-parts (text_at_lem (got c.in-Some.is c.path_at-found.ensures) c.root_at-k.ensures)) c.requires) c.put_slice-end.ensures)
+    let stands = text_at_lem (got refl c.in-Some.ensures) c.root_at-k.ensures in
+    let start = text_writing stands c.args.out.now c.requires in
+    let marked = writing_next start c.put_slice-end.ensures in
+    writing_within marked
 
 pub slice_bounds-put_parts-start : goal.slice_bounds-put_parts-start
 slice_bounds-put_parts-start c =
-    writing_within (writing_next (writing_start c.args.out.now (text_in-parts (text_at_lem (got c.in-Some.is c.path_at-found.ensures) c.root_at-k.ensures)) c.requires) c.put_slice-end.ensures)
+    let stands = text_at_lem (got refl c.in-Some.ensures) c.root_at-k.ensures in
+    let start = text_writing stands c.args.out.now c.requires in
+    let marked = writing_next start c.put_slice-end.ensures in
+    writing_within marked
 
 pub put_parts-end-requires : goal.put_parts-end-requires
 put_parts-end-requires c =
-    ((text_at_lem (got c.in-Some.is c.path_at-found.ensures) c.root_at-k.ensures).least, (text_at_lem (got c.in-Some.is c.path_at-found.ensures) c.root_at-k.ensures).there, writing_fits (writing_next (writing_start c.args.out.now (text_in-parts (text_at_lem (got c.in-Some.is c.path_at-found.ensures) c.root_at-k.ensures)) c.requires) c.put_slice-end.ensures))
+    let stands = text_at_lem (got refl c.in-Some.ensures) c.root_at-k.ensures in
+    let start = text_writing stands c.args.out.now c.requires in
+    let marked = writing_next start c.put_slice-end.ensures in
+    (stands.least, stands.there, writing_fits marked)
 
-pub overflow_add-end-in-Some : goal.overflow_add-end-in-Some
-overflow_add-end-in-Some c =
-    omega (arith, (writing_next (writing_next (writing_start c.args.out.now (text_in-parts (text_at_lem (got c.in-Some.is c.path_at-found.ensures) c.root_at-k.ensures)) c.requires) c.put_slice-end.ensures) c.put_parts-end.ensures))
+pub overflow_add-end-2 : goal.overflow_add-end-2
+overflow_add-end-2 c =
+    let stands = text_at_lem (got refl c.in-Some.ensures) c.root_at-k.ensures in
+    let start = text_writing stands c.args.out.now c.requires in
+    let marked = writing_next start c.put_slice-end.ensures in
+    let whole = writing_next marked c.put_parts-end.ensures in
+    omega (arith, whole)
 
 pub shape_of-out : goal.shape_of-out
 shape_of-out c =
-    writing_same (writing_next (writing_next (writing_start c.args.out.now (text_in-parts (text_at_lem (got c.in-Some.is c.path_at-found.ensures) c.root_at-k.ensures)) c.requires) c.put_slice-end.ensures) c.put_parts-end.ensures)
+    let stands = text_at_lem (got refl c.in-Some.ensures) c.root_at-k.ensures in
+    let start = text_writing stands c.args.out.now c.requires in
+    let marked = writing_next start c.put_slice-end.ensures in
+    let whole = writing_next marked c.put_parts-end.ensures in
+    writing_same whole
 
-pub returns-in-Some : goal.returns-in-Some
-returns-in-Some c =
-    writing_end (writing_next (writing_next (writing_start c.args.out.now (text_in-parts (text_at_lem (got c.in-Some.is c.path_at-found.ensures) c.root_at-k.ensures)) c.requires) c.put_slice-end.ensures) c.put_parts-end.ensures)
+pub returns : goal.returns
+returns c =
+    let stands = text_at_lem (got refl c.in-Some.ensures) c.root_at-k.ensures in
+    let start = text_writing stands c.args.out.now c.requires in
+    let marked = writing_next start c.put_slice-end.ensures in
+    let whole = writing_next marked c.put_parts-end.ensures in
+    writing_end whole
 
-pub returns-in-None : goal.returns-in-None
-returns-in-None c = no_text _ (got-none c.in-None.is c.path_at-found.ensures)
+pub returns-in_default : goal.returns-in_default
+returns-in_default c = no_text _ (got-none refl c.in_default.ensures)

@@ -1,12 +1,10 @@
 -- `path::root_at` meets its contract: by the byte there. Assumes nothing.
-use Rattle.path.specs.PathText.{root_none, root-there, root_not}
+use Rattle.std.proofs.Common.{◌∙◌}
+use Rattle.path.specs.PathText.{root_none, root-byte}
 use Rattle.path.proofs.root_at.Goals as goal
 
-pub returns-then-b-at : goal.returns-then-b-at
-returns-then-b-at c = root_none _ c.if-b-at.true
+pub returns-in-Some : goal.returns-in-Some
+returns-in-Some c = let (there, is) = c.in-Some.ensures.lookup.3 in c.from.ensures ∙ root-byte _ _ there (is 0)
 
-pub returns-then-b-at-eq92 : goal.returns-then-b-at-eq92
-returns-then-b-at-eq92 c = root-there _ _ c.if-b-at.false c.if-b-at-eq92.true
-
-pub returns-else-b-at-eq92 : goal.returns-else-b-at-eq92
-returns-else-b-at-eq92 c = root_not _ _ c.if-b-at.false c.if-b-at-eq92.false
+pub returns-in-None : goal.returns-in-None
+returns-in-None c = root_none _ c.in-None.ensures.lookup.3

@@ -11,5 +11,5 @@ returns-then-j-eq4 c = spelled_dot _ _ c.requires c.if-i-head.false c.if-j-eq4.t
 pub bounds-rest-j : goal.bounds-rest-j
 bounds-rest-j c = spelled-within _ _ c.requires c.if-i-head.false c.if-j-eq4.false
 
-pub returns : goal.returns
-returns c = spelled-char _ _ c.requires c.if-i-head.false c.if-j-eq4.false
+pub returns-else-j-eq4 : goal.returns-else-j-eq4
+returns-else-j-eq4 c = spelled-char _ _ c.requires c.if-i-head.false c.if-j-eq4.false

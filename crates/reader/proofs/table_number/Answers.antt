@@ -1,5 +1,5 @@
 -- `reader::table_number` meets its contract. Assumes nothing.
-use native.Mathlib.Omega.{arith}
+use Rattle.std.proofs.Common.{sym, arith}
 use Rattle.reader.specs.ReaderLaws.{table-short, table-other, table_large, table_unsummed, table-fine}
 use Rattle.reader.proofs.table_number.Goals as goal
 
@@ -21,4 +21,4 @@ returns-then-byte_sum-ne0 c =
 
 pub returns : goal.returns
 returns c =
-    table-fine _ c.if-table-lt36.false c.get_le.ensures c.if-get_le-table.false c.if-table-gt268435455.false c.byte_sum.ensures c.if-byte_sum-ne0.false
+    sym (table-fine _ c.if-table-lt36.false c.get_le.ensures c.if-get_le-table.false c.if-table-gt268435455.false c.byte_sum.ensures c.if-byte_sum-ne0.false)

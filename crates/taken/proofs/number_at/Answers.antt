@@ -1,4 +1,5 @@
 -- `taken::number_at` meets its contract, by the form of the numbers. Assumes nothing.
+use Rattle.std.proofs.Common.{⊎_elim}
 use Rattle.taken.specs.Taken.{get_number}
 use Rattle.taken.specs.TakenLaws.{digits-short}
 use Rattle.taken.proofs.number_at.Goals as goal
@@ -13,15 +14,12 @@ returns-in-Digits c = rw c.in-Digits.is c.le_at.ensures
 
 pub returns-in-MethodFlags : goal.returns-in-MethodFlags
 unfolding get_number
-returns-in-MethodFlags c = rw c.in-MethodFlags.is c.le_at-in-MethodFlags.ensures
+returns-in-MethodFlags c =
+    let r = c.le_at-in-MethodFlags.ensures in ⊎_elim (λ e. rw e r) (λ e. rw e r) c.in-MethodFlags.is
 
 pub returns-in-LevelOrder : goal.returns-in-LevelOrder
 unfolding get_number
 returns-in-LevelOrder c = rw c.in-LevelOrder.is c.le_at-in-LevelOrder.ensures
-
-pub returns-in-FieldFlags : goal.returns-in-FieldFlags
-unfolding get_number
-returns-in-FieldFlags c = rw c.in-FieldFlags.is c.le_at-in-FieldFlags.ensures
 
 pub returns-in-IntegerX : goal.returns-in-IntegerX
 unfolding get_number

@@ -1,6 +1,5 @@
 -- `taken::segment_at` meets its contract. Assumes nothing.
-use mathlib.Core.Path.{sym, ◌∙◌}
-use native.Mathlib.Omega.{arith}
+use Rattle.std.proofs.Common.{sym, ◌∙◌, arith}
 use Rattle.path.specs.PathReading.{segment-there}
 use Rattle.taken.specs.TakenLaws.{segment-found, segment_missed}
 use Rattle.taken.proofs.segment_at.Goals as goal

@@ -1,5 +1,5 @@
 -- `taken::text_at` meets its contract, by the form of the text. Assumes nothing.
-use mathlib.Core.Path.{refl}
+use Rattle.std.proofs.Common.{refl, ⊎_elim}
 use Rattle.octets.specs.Bytes.{◌>>=◌}
 use Rattle.octets.specs.Reading.{reads_none}
 use Rattle.path.specs.Get.{get_path_length}
@@ -30,12 +30,5 @@ returns-in-AnyBytes c = rw c.in-AnyBytes.is (rest-found _ _ c.requires)
 
 pub returns-in-EisaText : goal.returns-in-EisaText
 unfolding get_text_length sized get_text get_path_length ◌>>=◌
-returns-in-EisaText c = rw c.in-EisaText.is (reads_none refl)
-
-pub returns-in-UuidText : goal.returns-in-UuidText
-unfolding get_text_length sized get_text get_path_length ◌>>=◌
-returns-in-UuidText c = rw c.in-UuidText.is (reads_none refl)
-
-pub returns-in-DescriptorText : goal.returns-in-DescriptorText
-unfolding get_text_length sized get_text get_path_length ◌>>=◌
-returns-in-DescriptorText c = rw c.in-DescriptorText.is (reads_none refl)
+returns-in-EisaText c =
+    ⊎_elim (λ e. rw e (reads_none refl)) (λ d. ⊎_elim (λ e. rw e (reads_none refl)) (λ e. rw e (reads_none refl)) d) c.in-EisaText.is

@@ -1,6 +1,6 @@
 -- `walk::number_at` meets its contract, by the form of the children. Assumes nothing.
-use mathlib.Core.Path.{refl}
-use native.Mathlib.Omega.{arith}
+use Rattle.std.proofs.Common.{refl}
+use Rattle.std.proofs.Common.{arith}
 use lib.ListN.{length-drop}
 use Rattle.octets.specs.Reading.{reads, reads_none}
 use Rattle.walk.specs.Walk.{get_number}

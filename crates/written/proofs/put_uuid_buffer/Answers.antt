@@ -9,32 +9,50 @@ use Rattle.written.proofs.put_uuid_buffer.Goals as goal
 
 pub put_buffer_front-at-requires : goal.put_buffer_front-at-requires
 put_buffer_front-at-requires c =
-    (writing_fits (let d = c.args in two-start (buffer_front 16) (uuid_bytes d.t.now) d.out.now (uuid-front d.t.now) c.requires.1), omega arith)
+    let h0 = two-start (buffer_front 16) (uuid_bytes c.args.t.now) c.args.out.now (uuid-front c.args.t.now) c.requires.1 in
+    (writing_fits h0, omega arith)
 
 pub overflow_add-at : goal.overflow_add-at
 overflow_add-at c =
-    let h = (writing_next (let d = c.args in two-start (buffer_front 16) (uuid_bytes d.t.now) d.out.now (uuid-front d.t.now) c.requires.1) c.put_buffer_front-at.ensures) in omega (arith, writing_within h, writing_same h, c.well_formed.1.0.0)
+    let h0 = two-start (buffer_front 16) (uuid_bytes c.args.t.now) c.args.out.now (uuid-front c.args.t.now) c.requires.1 in
+    let h1 = writing_next h0 c.put_buffer_front-at.ensures in
+    let h = h1 in omega (arith, writing_within h, writing_same h, c.well_formed.1.0.0)
 
 pub slice_bounds-put_uuid-count : goal.slice_bounds-put_uuid-count
 slice_bounds-put_uuid-count c =
-    writing_within (writing_next (let d = c.args in two-start (buffer_front 16) (uuid_bytes d.t.now) d.out.now (uuid-front d.t.now) c.requires.1) c.put_buffer_front-at.ensures)
+    let h0 = two-start (buffer_front 16) (uuid_bytes c.args.t.now) c.args.out.now (uuid-front c.args.t.now) c.requires.1 in
+    let h1 = writing_next h0 c.put_buffer_front-at.ensures in
+    writing_within h1
 
 pub slice_bounds-put_uuid-start : goal.slice_bounds-put_uuid-start
 slice_bounds-put_uuid-start c =
-    writing_within (writing_next (let d = c.args in two-start (buffer_front 16) (uuid_bytes d.t.now) d.out.now (uuid-front d.t.now) c.requires.1) c.put_buffer_front-at.ensures)
+    let h0 = two-start (buffer_front 16) (uuid_bytes c.args.t.now) c.args.out.now (uuid-front c.args.t.now) c.requires.1 in
+    let h1 = writing_next h0 c.put_buffer_front-at.ensures in
+    writing_within h1
 
 pub put_uuid-at-requires : goal.put_uuid-at-requires
 put_uuid-at-requires c =
-    (c.requires.0, omega (arith, writing_fits (writing_next (let d = c.args in two-start (buffer_front 16) (uuid_bytes d.t.now) d.out.now (uuid-front d.t.now) c.requires.1) c.put_buffer_front-at.ensures), uuid-length c.args.t.now))
+    let h0 = two-start (buffer_front 16) (uuid_bytes c.args.t.now) c.args.out.now (uuid-front c.args.t.now) c.requires.1 in
+    let h1 = writing_next h0 c.put_buffer_front-at.ensures in
+    (c.requires.0, omega (arith, writing_fits h1, uuid-length c.args.t.now))
 
 pub overflow_add-at-2 : goal.overflow_add-at-2
 overflow_add-at-2 c =
-    let h = (writing_next (writing_next (let d = c.args in two-start (buffer_front 16) (uuid_bytes d.t.now) d.out.now (uuid-front d.t.now) c.requires.1) c.put_buffer_front-at.ensures) c.put_uuid-at.ensures) in omega (arith, writing_within h, writing_same h, c.well_formed.1.0.0)
+    let h0 = two-start (buffer_front 16) (uuid_bytes c.args.t.now) c.args.out.now (uuid-front c.args.t.now) c.requires.1 in
+    let h1 = writing_next h0 c.put_buffer_front-at.ensures in
+    let h2 = writing_next h1 c.put_uuid-at.ensures in
+    let h = h2 in omega (arith, writing_within h, writing_same h, c.well_formed.1.0.0)
 
 pub shape_of-out : goal.shape_of-out
 shape_of-out c =
-    writing_same (writing_next (writing_next (let d = c.args in two-start (buffer_front 16) (uuid_bytes d.t.now) d.out.now (uuid-front d.t.now) c.requires.1) c.put_buffer_front-at.ensures) c.put_uuid-at.ensures)
+    let h0 = two-start (buffer_front 16) (uuid_bytes c.args.t.now) c.args.out.now (uuid-front c.args.t.now) c.requires.1 in
+    let h1 = writing_next h0 c.put_buffer_front-at.ensures in
+    let h2 = writing_next h1 c.put_uuid-at.ensures in
+    writing_same h2
 
 pub returns : goal.returns
 returns c =
-    writing_end (writing_next (writing_next (let d = c.args in two-start (buffer_front 16) (uuid_bytes d.t.now) d.out.now (uuid-front d.t.now) c.requires.1) c.put_buffer_front-at.ensures) c.put_uuid-at.ensures)
+    let h0 = two-start (buffer_front 16) (uuid_bytes c.args.t.now) c.args.out.now (uuid-front c.args.t.now) c.requires.1 in
+    let h1 = writing_next h0 c.put_buffer_front-at.ensures in
+    let h2 = writing_next h1 c.put_uuid-at.ensures in
+    writing_end h2

@@ -1,9 +1,0 @@
--- `described::mark_at` ends. Assumes nothing.
-use Rattle.std.proofs.Common.{◌-◌}
-use Rattle.described.proofs.mark_at.Given as goal
-
-abbrev pub invariant-loop-i : goal.invariant-loop-i
-invariant-loop-i l = Unit {0}
-
-abbrev pub decreases-loop-i : goal.decreases-loop-i
-decreases-loop-i l = l.to - l.i

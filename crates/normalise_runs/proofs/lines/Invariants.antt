@@ -1,9 +1,0 @@
--- `normalise_runs::lines` ends. Assumes nothing.
-use Rattle.std.proofs.Common.{◌-◌}
-use Rattle.normalise_runs.proofs.lines.Given as goal
-
-abbrev pub invariant-loop-i : goal.invariant-loop-i
-invariant-loop-i l = Unit {0}
-
-abbrev pub decreases-loop-i : goal.decreases-loop-i
-decreases-loop-i l = l.n - l.i

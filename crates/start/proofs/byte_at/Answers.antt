@@ -1,8 +1,0 @@
--- `start::byte_at` meets its contract: what is behind the end is 0. Assumes nothing.
-use mathlib.Core.Path.{sym}
-use native.Mathlib.Omega.{arith}
-use lib.ListN.{get_or-eq_default}
-use Rattle.start.proofs.byte_at.Goals as goal
-
-pub returns-then-b-at : goal.returns-then-b-at
-returns-then-b-at c = (sym (get_or-eq_default c.args.b.now 0 c.if-b-at.true), omega arith)
