@@ -52,8 +52,8 @@ fn entry_fits(pool: &[u8], e: Entry) -> bool
     path::is_path(term::text_at(pool, e.start, e.len)) && matches!(e.args, 1..=7)
 }
 
-// How a stands to the first n bytes that `head` and the segments in `rest` spell, as slices compare: one pass, up to the first byte that
-// differs.
+// How a stands to the first n bytes that `head` and the segments in `rest` spell, which lie nowhere as a slice: as slices compare, in one
+// pass, up to the first byte that differs.
 fn compare(a: &[u8], head: &[u8], rest: &[u8], n: usize) -> Ordering
     requires { n ≤ length (spelled head.now rest.now) }
     ensures { result ≡ slice_cmp nat_cmp a.now (take n (spelled head.now rest.now)) }

@@ -7,7 +7,8 @@ ghost use Rattle.term.specs.Record.{records_from};
 ghost use Rattle.arity.specs.Arity.{args_of};
 ghost use Rattle.grammar.specs.Kinds.{counts, args_at};
 ghost use Rattle.checker.specs.Refusal.{text_of, in_pool, place_fault, fault, scan, refusal_of};
-ghost use Rattle.checker.specs.Said.{number_said, verdict_said};
+ghost use Rattle.refusal.specs.Number.{number_said};
+ghost use Rattle.checker.specs.Said.{verdict_said};
 ghost use Rattle.checker.specs.Walk.{kids, check};
 ghost use Rattle.checker.specs.WalkLaws.{Told};
 

@@ -7,7 +7,7 @@ ghost use Rattle.grammar.specs.Kinds.{kinds};
 ghost use Rattle.grammar.specs.Packed.{position, row_at};
 ghost use Rattle.written.specs.Fine.{fields_of};
 ghost use Rattle.term.specs.Record.{record_at, text_at};
-ghost use Rattle.checker.specs.Said.{number_said};
+ghost use Rattle.refusal.specs.Number.{number_said};
 ghost use Rattle.encode.specs.Walk.{records_in, deeper, list, term};
 ghost use Rattle.encode.specs.Terms.{body_of, takes_of, head_of, Told, Framed, Able};
 ghost use Rattle.encode.specs.WalkLaws.{terms_from, Measured, Put, Room};
@@ -69,7 +69,8 @@ impl Sized {
 
 // ── Measuring
 
-// The records of a term in normal form, whose children have n. UUID and template become a buffer with its size as a child.
+// The records of a term in normal form, whose children have n. UUID and template become a buffer with its size as a child. Only the
+// kinds that are not in normal form are told apart, by document 01's numbers.
 #[tactic(auto, unfolding(crate::specs::Walk::records_in))]
 fn records_in(kind: u64, n: u64) -> u64
     requires { n ≤ 131072 }
@@ -140,7 +141,8 @@ impl Own<'_> {
 
 // ── Sizes that were measured are kept, each with its record and level, so that what stands in several boxes is not measured for each
 
-// Keeps the size of the children of record i. Its place may have had another's, which is lost.
+// Keeps the size of the children of record i. Its place may have had another's, which is lost. The memory is lent beside the terms, since
+// that it is right speaks of both.
 #[tactic(auto, unfolding(crate::specs::Kept::kept_in, crate::specs::Kept::slot_of, crate::specs::Kept::key_of))]
 fn keep(kept: &mut [u64], i: usize, levels: usize, size: u64)
     requires { (i ≤ 65536) × (levels ≤ 64) }
@@ -254,7 +256,7 @@ impl<'a> Terms<'a> {
         all
     }
 
-    // n terms from record i on, for whoever measures once.
+    // n terms from record i on, for whoever measures once: with a memory of one number, since the memory is fixed and nothing is asked again.
     pub fn sizes_of(&self, n: u64, i: usize, levels: usize) -> Sized
         requires { levels ≤ 64 }
         ensures { Measured (list (term levels) n (terms_from self.now.records.now self.now.pool.now i)) self.now.records.now self.now.pool.now result.size result.records result.deep result.next }
@@ -341,7 +343,7 @@ impl<'a> Terms<'a> {
         Done { size: at, next }
     }
 
-    // n terms from record i on, for whoever has nothing measured.
+    // n terms from record i on, for whoever has nothing measured: with a memory of one number.
     pub fn write_list(&self, n: u64, i: usize, levels: usize, out: &mut [u8]) -> Done
         requires { (levels ≤ 64) × Room (list (term levels) n (terms_from self.now.records.now self.now.pool.now i)) out.old }
         ensures { Put (list (term levels) n (terms_from self.now.records.now self.now.pool.now i)) self.now.records.now self.now.pool.now out.old out.new result.size result.next }

@@ -54,7 +54,8 @@ pub fn put_frame(j: usize, body: u64, out: &mut [u8]) -> usize
     at + put_length(boxed, body, &mut out[at..])
 }
 
-// ── What the children have around them where the fields stand behind: their number, or a template's size and its end tag
+// ── What the children have around them where the fields stand behind: their number, or a template's size and its end tag. A size
+// is asked for where nothing is written yet, so it is a function beside the writer.
 
 #[tactic(auto, unfolding(crate::specs::Frame::front_of, octets::specs::Bytes::le))]
 fn front_len(rest: Rest, n: u64, size: u64) -> usize

@@ -183,6 +183,7 @@ fn generic_address(space: AddressSpace, width: u64, address: u64) -> Result<Gene
     })
 }
 
+// A port has 16 bits, so that no address is refused.
 pub fn io_port_address(width: u64, address: u16) -> Result<GenericAddress, Refusal>
     ensures { answered result ≡ made 1 width address }
 {

@@ -13,7 +13,7 @@ ghost use Rattle.monitor.specs.Face.{Faced, face_of, verdict_of, edit_of, record
 use refusal::{Fault, Refusal};
 use sdt::Sdt;
 
-// A refusal's number and the record at which it was found; or 0, and how many bytes were written.
+// A refusal's number and the record at which it was found; or 0, and how many bytes were written: C has no `Result`.
 #[repr(C)]
 #[derive(Clone, Copy)]
 pub struct AcpiAnswer {
@@ -31,7 +31,7 @@ pub struct AcpiEdit {
     pub checksum: u8,
 }
 
-// What a call answered, as C has it.
+// What a call answered, as C has it. No `From`, which could not ask that the index fits.
 fn faced(outcome: Result<usize, Fault>) -> AcpiAnswer
     requires { (answer_of outcome).index < 4294967296 }
     ensures { result ≡ face_of (answer_of outcome) }

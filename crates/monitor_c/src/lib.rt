@@ -1,5 +1,5 @@
 // The static library: the C face of `monitor`, for a Rust or C program that links it. Each export calls the function of its name there
-// and states its clauses again.
+// and states its clauses again: exports are of a static library, and theorems speak of a library.
 #![tactic(auto)]
 
 ghost use Rattle.std.specs.Prelude.{◌≡◌};

@@ -107,7 +107,7 @@ fn put_count(n: usize, out: &mut [u8]) -> usize
     }
 }
 
-// n more segments: in b each stands behind `skip` bytes, in `out` behind as many dots as `dots`.
+// n more segments: in b, from a position in a table, each stands behind `skip` bytes, in `out` behind as many dots as `dots`.
 fn put_spaced(b: &[u8], from: usize, n: usize, skip: usize, dots: usize, out: &mut [u8]) -> usize
     requires { (from + (skip + 4) * n ≤ length b.now) × (length (spaced skip dots n (drop from b.now)) ≤ length out.old) }
     ensures { Wrote (spaced skip dots n (drop from b.now)) out.old out.new result }

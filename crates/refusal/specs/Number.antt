@@ -1,6 +1,6 @@
 -- Document 01's number of each refusal ("Refusal numbers"). 13 has none: such a table is over 268,435,455 bytes, and 12 is given first.
 -- Assumes nothing.
-use Rattle.std.specs.Prelude.{ℕ}
+use Rattle.std.specs.Prelude.{ℕ, Result, Ok, Err}
 use Rattle.refusal.specs.declared.Refusal.{Refusal}
 use Rattle.refusal.specs.declared.Refusal.TheVariants as refusal
 
@@ -22,3 +22,8 @@ number refusal.BadTable = 20
 number refusal.Sum = 21
 number refusal.NoFile = 22
 number refusal.WriteOutside = 23
+
+-- what an answer says: 0 where nothing is refused
+abbrev pub number_said : {A : Type 0} → Result A Refusal → ℕ
+number_said (Ok a) = 0
+number_said (Err e) = number e

@@ -14,12 +14,7 @@ pub record Edit : Type 0 where
   pub number : ℕ
   pub table : Sdt
 
--- the number of a result
-abbrev pub number_said : {A : Type 0} → Result A Refusal → ℕ
-number_said (Ok a) = 0
-number_said (Err e) = number e
-
--- and the record t as it is left: a refusal leaves it as it was
+-- what a result says, with the record t as it is left: a refusal leaves it as it was
 abbrev pub edit_said : Sdt → Result Sdt Refusal → Edit
 edit_said t (Ok u) = record { number = 0; table = u }
 edit_said t (Err e) = record { number = number e; table = t }

@@ -7,11 +7,12 @@ use Rattle.std.proofs.Math.Seq.{take-append_seam, length-take-le}
 use Rattle.std.proofs.lemmas.Bool.{not-false}
 use Rattle.sdt.specs.Table.{sealed, new_table, appended, overwritten, opened}
 use Rattle.sdt.specs.TableLaws.{sealed-length, sealed-sums, sealed_field, sealed_byte, sealed-again, over, over-length}
-use Rattle.sdt.specs.Edit.{Edit, number_said, edit_said, Outcome, refused, accepted, sound, writable, sized, new_of, append_of, write_of, Left, Leaves, Standing}
+use Rattle.sdt.specs.Edit.{Edit, edit_said, Outcome, refused, accepted, sound, writable, sized, new_of, append_of, write_of, Left, Leaves, Standing}
 use Rattle.sdt.specs.Answer.{zeros}
 use Rattle.sdt.specs.AnswerLaws.{sound-fits, writable-fits, opened-length}
 use Rattle.sdt.specs.declared.Sdt.{Sdt}
 use Rattle.refusal.specs.declared.Refusal.{Refusal}
+use Rattle.refusal.specs.Number.{number_said}
 use Rattle.refusal.specs.NumberLaws.{number-injective, number-positive}
 
 -- two answers to one call, to any of them, are equal: number, record, and every byte of the buffer

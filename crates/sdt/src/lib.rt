@@ -3,9 +3,9 @@
 
 ghost use Rattle.std.specs.Prelude.{◌≡◌, true, ◌||◌, ◌+◌, ◌≤◌, ◌<◌, eqb, leb, length, MatchResult};
 ghost use Rattle.octets.specs.Filling.{Wrote};
-ghost use Rattle.refusal.specs.Number.{number};
+ghost use Rattle.refusal.specs.Number.{number, number_said};
 ghost use Rattle.sdt.specs.declared.Sdt.{Sdt};
-ghost use Rattle.sdt.specs.Edit.{sound, writable, new_of, append_of, write_of, Left, Leaves, edit_said, number_said, largest_table};
+ghost use Rattle.sdt.specs.Edit.{sound, writable, new_of, append_of, write_of, Left, Leaves, edit_said, largest_table};
 ghost use Rattle.sdt.specs.Answer.{Sealed, size_number, header};
 
 use refusal::Refusal;
@@ -156,7 +156,7 @@ impl Sdt {
         Ok(update_checksum(&mut buffer[..n]))
     }
 
-    // ── The edits in place: the record is lent beside the buffer, and holds what the edit leaves
+    // ── The edits in place, as document 01 names them, over those above: the record is lent beside the buffer, and holds what the edit leaves
 
     pub fn new(
         &mut self,

@@ -4,9 +4,7 @@
 
 use refusal::Refusal;
 use sdt::Sdt;
-
-// Standard output.
-const STDOUT_FILENO: i32 = 1;
+use shown::{hexadecimal, text};
 
 const IDENTITY: &[u8; 31] =
     b"DSDT\x02\x00\x00\x00\x00\x00\x00\x00\x00\x00\x00\x00\x00\x00\x00\x00\x00\x00\x00\x00\x00\x00\x00\x00\x00\x00\x00";
@@ -51,18 +49,9 @@ static EMPTY: [Write; 5] = [(4, b""), (7, b""), (9, b""), (42, b""), (43, b"")];
 
 // ── A line
 
-fn text(s: &[u8]) {
-    io::write_all(STDOUT_FILENO, s);
-}
-
 fn decimal(n: u64) {
     text(b" ");
-    io::print_decimal(STDOUT_FILENO, n);
-}
-
-fn hex(b: u8) {
-    text(b" ");
-    io::print_hex(STDOUT_FILENO, u64::from(b), 2);
+    shown::decimal(n);
 }
 
 // What an edit left.
@@ -75,11 +64,9 @@ fn show(edit: Result<(), Refusal>, t: Sdt, b: &[u8]) {
     decimal(u64::from(number));
     text(b", record");
     decimal(u64::from(t.length));
-    hex(t.checksum);
+    hexadecimal(&[t.checksum]);
     text(b"\n ");
-    for x in b {
-        hex(*x);
-    }
+    hexadecimal(b);
     text(b"\n");
 }
 

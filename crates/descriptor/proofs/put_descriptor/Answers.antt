@@ -28,50 +28,11 @@ put_le-at-requires c =
     let h0 = begun c.args.kind c.columns_of-c.ensures c.requires.0 c.range_length-n.ensures c.requires.1 in
     writing_fits h0
 
-pub overflow_add-at : goal.overflow_add-at
-overflow_add-at c =
-    let h0 = begun c.args.kind c.columns_of-c.ensures c.requires.0 c.range_length-n.ensures c.requires.1 in
-    let h1 = writing_next h0 c.put_le-at.ensures in
-    omega (arith, h1)
-
-pub slice_bounds-put_le-count-2 : goal.slice_bounds-put_le-count-2
-slice_bounds-put_le-count-2 c =
-    let h0 = begun c.args.kind c.columns_of-c.ensures c.requires.0 c.range_length-n.ensures c.requires.1 in
-    let h1 = writing_next h0 c.put_le-at.ensures in
-    writing_within h1
-
-pub slice_bounds-put_le-start-2 : goal.slice_bounds-put_le-start-2
-slice_bounds-put_le-start-2 c =
-    let h0 = begun c.args.kind c.columns_of-c.ensures c.requires.0 c.range_length-n.ensures c.requires.1 in
-    let h1 = writing_next h0 c.put_le-at.ensures in
-    writing_within h1
-
 pub put_le-at-requires-2 : goal.put_le-at-requires-2
 put_le-at-requires-2 c =
     let h0 = begun c.args.kind c.columns_of-c.ensures c.requires.0 c.range_length-n.ensures c.requires.1 in
     let h1 = writing_next h0 c.put_le-at.ensures in
     writing_fits h1
-
-pub overflow_add-at-2 : goal.overflow_add-at-2
-overflow_add-at-2 c =
-    let h0 = begun c.args.kind c.columns_of-c.ensures c.requires.0 c.range_length-n.ensures c.requires.1 in
-    let h1 = writing_next h0 c.put_le-at.ensures in
-    let h2 = writing_next h1 c.put_le-at-2.ensures in
-    omega (arith, h2)
-
-pub slice_bounds-put_slice-count : goal.slice_bounds-put_slice-count
-slice_bounds-put_slice-count c =
-    let h0 = begun c.args.kind c.columns_of-c.ensures c.requires.0 c.range_length-n.ensures c.requires.1 in
-    let h1 = writing_next h0 c.put_le-at.ensures in
-    let h2 = writing_next h1 c.put_le-at-2.ensures in
-    writing_within h2
-
-pub slice_bounds-put_slice-start : goal.slice_bounds-put_slice-start
-slice_bounds-put_slice-start c =
-    let h0 = begun c.args.kind c.columns_of-c.ensures c.requires.0 c.range_length-n.ensures c.requires.1 in
-    let h1 = writing_next h0 c.put_le-at.ensures in
-    let h2 = writing_next h1 c.put_le-at-2.ensures in
-    writing_within h2
 
 pub put_slice-at-requires : goal.put_slice-at-requires
 put_slice-at-requires c =
@@ -80,30 +41,6 @@ put_slice-at-requires c =
     let h2 = writing_next h1 c.put_le-at-2.ensures in
     writing_fits h2
 
-pub overflow_add-at-3 : goal.overflow_add-at-3
-overflow_add-at-3 c =
-    let h0 = begun c.args.kind c.columns_of-c.ensures c.requires.0 c.range_length-n.ensures c.requires.1 in
-    let h1 = writing_next h0 c.put_le-at.ensures in
-    let h2 = writing_next h1 c.put_le-at-2.ensures in
-    let h3 = writing_next h2 c.put_slice-at.ensures in
-    omega (arith, h3)
-
-pub slice_bounds-put_le-count-3 : goal.slice_bounds-put_le-count-3
-slice_bounds-put_le-count-3 c =
-    let h0 = begun c.args.kind c.columns_of-c.ensures c.requires.0 c.range_length-n.ensures c.requires.1 in
-    let h1 = writing_next h0 c.put_le-at.ensures in
-    let h2 = writing_next h1 c.put_le-at-2.ensures in
-    let h3 = writing_next h2 c.put_slice-at.ensures in
-    writing_within h3
-
-pub slice_bounds-put_le-start-3 : goal.slice_bounds-put_le-start-3
-slice_bounds-put_le-start-3 c =
-    let h0 = begun c.args.kind c.columns_of-c.ensures c.requires.0 c.range_length-n.ensures c.requires.1 in
-    let h1 = writing_next h0 c.put_le-at.ensures in
-    let h2 = writing_next h1 c.put_le-at-2.ensures in
-    let h3 = writing_next h2 c.put_slice-at.ensures in
-    writing_within h3
-
 pub put_le-at-requires-3 : goal.put_le-at-requires-3
 put_le-at-requires-3 c =
     let h0 = begun c.args.kind c.columns_of-c.ensures c.requires.0 c.range_length-n.ensures c.requires.1 in
@@ -111,24 +48,6 @@ put_le-at-requires-3 c =
     let h2 = writing_next h1 c.put_le-at-2.ensures in
     let h3 = writing_next h2 c.put_slice-at.ensures in
     writing_fits h3
-
-pub overflow_add-at-4 : goal.overflow_add-at-4
-overflow_add-at-4 c =
-    let h0 = begun c.args.kind c.columns_of-c.ensures c.requires.0 c.range_length-n.ensures c.requires.1 in
-    let h1 = writing_next h0 c.put_le-at.ensures in
-    let h2 = writing_next h1 c.put_le-at-2.ensures in
-    let h3 = writing_next h2 c.put_slice-at.ensures in
-    let h4 = writing_next h3 c.put_le-at-3.ensures in
-    omega (arith, h4)
-
-pub shape_of-out : goal.shape_of-out
-shape_of-out c =
-    let h0 = begun c.args.kind c.columns_of-c.ensures c.requires.0 c.range_length-n.ensures c.requires.1 in
-    let h1 = writing_next h0 c.put_le-at.ensures in
-    let h2 = writing_next h1 c.put_le-at-2.ensures in
-    let h3 = writing_next h2 c.put_slice-at.ensures in
-    let h4 = writing_next h3 c.put_le-at-3.ensures in
-    writing_same h4
 
 pub returns : goal.returns
 returns c =

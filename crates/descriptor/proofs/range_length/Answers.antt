@@ -4,18 +4,6 @@ use native.Mathlib.Omega.{arith}
 use Rattle.descriptor.specs.Descriptor.{range_length}
 use Rattle.descriptor.proofs.range_length.Goals as goal
 
-pub get_le-min-requires : goal.get_le-min-requires
-unfolding range_length
-get_le-min-requires c = (c.requires.0, omega (arith, c.requires.1.wide))
-
-pub get_le-max-requires : goal.get_le-max-requires
-unfolding range_length
-get_le-max-requires c = (c.requires.0, omega (arith, c.requires.1.wide))
-
-pub overflow_sub-result : goal.overflow_sub-result
-unfolding range_length
-overflow_sub-result c = omega (arith, c.get_le-min.ensures.is, c.get_le-max.ensures.is, c.requires.1.least, c.requires.1.small)
-
 pub overflow_add-result : goal.overflow_add-result
 unfolding range_length
 overflow_add-result c = omega (arith, c.get_le-min.ensures.is, c.get_le-max.ensures.is, c.requires.1.least, c.requires.1.small)

@@ -4,9 +4,6 @@ use Rattle.encode.specs.TableLaws.{table-size}
 use Rattle.sdt.specs.AnswerLaws.{sealed-over}
 use Rattle.encode.proofs.put_table.Goals as goal
 
-pub slice_bounds-update_checksum-end : goal.slice_bounds-update_checksum-end
-slice_bounds-update_checksum-end c = omega (arith, table-size c.requires.1 c.put_opened-total.ensures)
-
 pub update_checksum-requires : goal.update_checksum-requires
 update_checksum-requires c =
     (rw length-take (omega (arith, table-size c.requires.1 c.put_opened-total.ensures)), rw length-take (omega (arith, table-size c.requires.1 c.put_opened-total.ensures, c.requires.1.few)))

@@ -4,9 +4,6 @@ use Rattle.fields.specs.Fields.{ascii}
 use Rattle.fields.proofs.Looking.{looking_turn, looking_end}
 use Rattle.fields.proofs.is_ascii.Goals as goal
 
-pub loop-byte-init : goal.loop-byte-init
-loop-byte-init c = record { left = refl }
-
 pub loop-byte-preserved : goal.loop-byte-preserved
 unfolding ascii
 loop-byte-preserved c = looking_turn c.loop-byte.invariant c.loop-byte-test.true refl refl

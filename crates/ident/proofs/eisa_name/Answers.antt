@@ -6,9 +6,6 @@ use Rattle.ident.specs.IdentLaws.{swap_is}
 use Rattle.ident.specs.EisaOf.{named, eisa_of}
 use Rattle.ident.proofs.eisa_name.Goals as goal
 
-pub eisa_bits-requires : goal.eisa_bits-requires
-eisa_bits-requires c = true_test _ (sym c.is_eisa.ensures ∙ c.if-is_eisa.true)
-
 pub returns-then-is_eisa : goal.returns-then-is_eisa
 unfolding named eisa_of eisa_id
 returns-then-is_eisa c =

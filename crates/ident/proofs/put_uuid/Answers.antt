@@ -17,17 +17,9 @@ pair_byte-requires c =
     let k = c.loop-k.k in
     (omega (arith, place-small k c.loop-k-test.true, uuid-text-length c.args.t.now c.requires.0), pair_at c.args.t.now c.requires.0 k c.loop-k-test.true)
 
-pub bounds-out-k : goal.bounds-out-k
-unfolding uuid_bytes
-bounds-out-k c = omega (arith, c.loop-k.invariant.len, c.requires.1)
-
 pub loop-k-preserved : goal.loop-k-preserved
 unfolding uuid_bytes
 loop-k-preserved c = map_turn (pair_byte c.args.t.now) uuid_places c.loop-k-test.true c.pair_byte.ensures c.loop-k.invariant
-
-pub shape_of-out : goal.shape_of-out
-unfolding uuid_bytes
-shape_of-out c = c.loop-k.invariant.len
 
 pub returns : goal.returns
 unfolding uuid_bytes

@@ -21,10 +21,6 @@ pub create_pkg_length-at-requires : goal.create_pkg_length-at-requires
 create_pkg_length-at-requires c =
     (front_fits c.args.n c.args.out.now c.requires.0 c.int_len.ensures, omega (arith, c.int_len.ensures, integer-most c.args.n, c.requires.1))
 
-pub overflow_add-at : goal.overflow_add-at
-overflow_add-at c =
-    let h = front_rest c.args.n c.args.out.now c.requires.0 c.int_len.ensures c.create_pkg_length-at.ensures in omega (arith, h.within, h.len)
-
 pub slice_bounds-put_int-count : goal.slice_bounds-put_int-count
 slice_bounds-put_int-count c =
     let h = front_rest c.args.n c.args.out.now c.requires.0 c.int_len.ensures c.create_pkg_length-at.ensures in omega (arith, h.within)
@@ -39,10 +35,6 @@ put_int-requires c = last_fits (front_rest c.args.n c.args.out.now c.requires.0 
 pub overflow_add-result : goal.overflow_add-result
 overflow_add-result c =
     let h = front_rest c.args.n c.args.out.now c.requires.0 c.int_len.ensures c.create_pkg_length-at.ensures in omega (arith, (last-wrote h c.put_int.ensures).count, h.room)
-
-pub shape_of-out : goal.shape_of-out
-shape_of-out c =
-    last-same (front_rest c.args.n c.args.out.now c.requires.0 c.int_len.ensures c.create_pkg_length-at.ensures) c.put_int.ensures
 
 pub returns : goal.returns
 returns c = last-wrote (front_rest c.args.n c.args.out.now c.requires.0 c.int_len.ensures c.create_pkg_length-at.ensures) c.put_int.ensures

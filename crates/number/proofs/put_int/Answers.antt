@@ -13,10 +13,6 @@ pub returns-then-x-lt2 : goal.returns-then-x-lt2
 unfolding le
 returns-then-x-lt2 c = wrote_as (integer-short c.args.x c.if-x-lt2.true) c.put_lead.ensures
 
-pub overflow_add-w : goal.overflow_add-w
-unfolding le
-overflow_add-w c = omega (arith, c.int_width-w.ensures, width-most c.args.x)
-
 pub overflow_cast-w : goal.overflow_cast-w
 unfolding le
 overflow_cast-w c = omega (arith, c.int_width-w.ensures, width-most c.args.x)

@@ -3,9 +3,6 @@ use Rattle.std.proofs.Common.{refl}
 use Rattle.octets.specs.SumLaws.{summing_start, summing_turn, summing_end}
 use Rattle.octets.proofs.byte_sum.Goals as goal
 
-pub loop-byte-init : goal.loop-byte-init
-loop-byte-init c = summing_start _
-
 pub loop-byte-preserved : goal.loop-byte-preserved
 loop-byte-preserved c = summing_turn c.loop-byte.invariant c.loop-byte-test.true refl
 

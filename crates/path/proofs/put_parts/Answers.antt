@@ -15,35 +15,11 @@ overflow_add-at c =
     let first = filling_lent _ _ start c.put_slice-at.ensures in
     let h = first in omega (arith, h.within, h.len)
 
-pub slice_bounds-put_spaced-count : goal.slice_bounds-put_spaced-count
-slice_bounds-put_spaced-count c =
-    let start = filling_start c.args.out.now (strung-is c.args.b.now c.args.skip c.args.dots c.args.from c.args.n) c.requires.2 in
-    let first = filling_lent _ _ start c.put_slice-at.ensures in
-    first.within
-
-pub slice_bounds-put_spaced-start : goal.slice_bounds-put_spaced-start
-slice_bounds-put_spaced-start c =
-    let start = filling_start c.args.out.now (strung-is c.args.b.now c.args.skip c.args.dots c.args.from c.args.n) c.requires.2 in
-    let first = filling_lent _ _ start c.put_slice-at.ensures in
-    first.within
-
 pub put_spaced-at-requires : goal.put_spaced-at-requires
 put_spaced-at-requires c =
     let start = filling_start c.args.out.now (strung-is c.args.b.now c.args.skip c.args.dots c.args.from c.args.n) c.requires.2 in
     let first = filling_lent _ _ start c.put_slice-at.ensures in
     (c.requires.1, last_fits first)
-
-pub overflow_add-at-2 : goal.overflow_add-at-2
-overflow_add-at-2 c =
-    let start = filling_start c.args.out.now (strung-is c.args.b.now c.args.skip c.args.dots c.args.from c.args.n) c.requires.2 in
-    let first = filling_lent _ _ start c.put_slice-at.ensures in
-    let w = last-wrote first c.put_spaced-at.ensures in omega (arith, w.count, c.requires.2)
-
-pub shape_of-out : goal.shape_of-out
-shape_of-out c =
-    let start = filling_start c.args.out.now (strung-is c.args.b.now c.args.skip c.args.dots c.args.from c.args.n) c.requires.2 in
-    let first = filling_lent _ _ start c.put_slice-at.ensures in
-    last-same first c.put_spaced-at.ensures
 
 pub returns : goal.returns
 returns c =

@@ -24,44 +24,11 @@ overflow_add-at c =
     let marked = writing_next start c.put_slice-at.ensures in
     omega (arith, marked)
 
-pub slice_bounds-put_count-count : goal.slice_bounds-put_count-count
-slice_bounds-put_count-count c =
-    let start = path_writing c.args.t.now c.requires.0 c.root_at-k.ensures c.args.out.now c.requires.1 in
-    let marked = writing_next start c.put_slice-at.ensures in
-    writing_within marked
-
-pub slice_bounds-put_count-start : goal.slice_bounds-put_count-start
-slice_bounds-put_count-start c =
-    let start = path_writing c.args.t.now c.requires.0 c.root_at-k.ensures c.args.out.now c.requires.1 in
-    let marked = writing_next start c.put_slice-at.ensures in
-    writing_within marked
-
 pub put_count-at-requires : goal.put_count-at-requires
 put_count-at-requires c =
     let start = path_writing c.args.t.now c.requires.0 c.root_at-k.ensures c.args.out.now c.requires.1 in
     let marked = writing_next start c.put_slice-at.ensures in
     ((path-size c.args.t.now c.requires.0 c.root_at-k.ensures).most, writing_fits marked)
-
-pub overflow_add-at-2 : goal.overflow_add-at-2
-overflow_add-at-2 c =
-    let start = path_writing c.args.t.now c.requires.0 c.root_at-k.ensures c.args.out.now c.requires.1 in
-    let marked = writing_next start c.put_slice-at.ensures in
-    let counted = writing_next marked c.put_count-at.ensures in
-    omega (arith, counted)
-
-pub slice_bounds-put_parts-count : goal.slice_bounds-put_parts-count
-slice_bounds-put_parts-count c =
-    let start = path_writing c.args.t.now c.requires.0 c.root_at-k.ensures c.args.out.now c.requires.1 in
-    let marked = writing_next start c.put_slice-at.ensures in
-    let counted = writing_next marked c.put_count-at.ensures in
-    writing_within counted
-
-pub slice_bounds-put_parts-start : goal.slice_bounds-put_parts-start
-slice_bounds-put_parts-start c =
-    let start = path_writing c.args.t.now c.requires.0 c.root_at-k.ensures c.args.out.now c.requires.1 in
-    let marked = writing_next start c.put_slice-at.ensures in
-    let counted = writing_next marked c.put_count-at.ensures in
-    writing_within counted
 
 pub put_parts-at-requires : goal.put_parts-at-requires
 put_parts-at-requires c =
@@ -69,22 +36,6 @@ put_parts-at-requires c =
     let marked = writing_next start c.put_slice-at.ensures in
     let counted = writing_next marked c.put_count-at.ensures in
     ((path-size c.args.t.now c.requires.0 c.root_at-k.ensures).least, omega (arith, (path-size c.args.t.now c.requires.0 c.root_at-k.ensures)), writing_fits counted)
-
-pub overflow_add-at-3 : goal.overflow_add-at-3
-overflow_add-at-3 c =
-    let start = path_writing c.args.t.now c.requires.0 c.root_at-k.ensures c.args.out.now c.requires.1 in
-    let marked = writing_next start c.put_slice-at.ensures in
-    let counted = writing_next marked c.put_count-at.ensures in
-    let whole = writing_next counted c.put_parts-at.ensures in
-    omega (arith, whole)
-
-pub shape_of-out : goal.shape_of-out
-shape_of-out c =
-    let start = path_writing c.args.t.now c.requires.0 c.root_at-k.ensures c.args.out.now c.requires.1 in
-    let marked = writing_next start c.put_slice-at.ensures in
-    let counted = writing_next marked c.put_count-at.ensures in
-    let whole = writing_next counted c.put_parts-at.ensures in
-    writing_same whole
 
 pub returns : goal.returns
 returns c =

@@ -23,32 +23,8 @@ put_slice-end-requires c =
     let start = text_writing stands c.args.out.now c.requires in
     writing_fits start
 
-pub overflow_add-end : goal.overflow_add-end
-overflow_add-end c =
-    let stands = text_at_lem (got refl c.in-Some.ensures) c.root_at-k.ensures in
-    let start = text_writing stands c.args.out.now c.requires in
-    let marked = writing_next start c.put_slice-end.ensures in
-    omega (arith, marked)
-
-pub overflow_mul-n : goal.overflow_mul-n
-overflow_mul-n c = omega (arith, (text_at_lem (got refl c.in-Some.ensures) c.root_at-k.ensures))
-
 pub overflow_sub-next : goal.overflow_sub-next
 overflow_sub-next c = (text_at_lem (got refl c.in-Some.ensures) c.root_at-k.ensures).behind
-
-pub slice_bounds-put_parts-count : goal.slice_bounds-put_parts-count
-slice_bounds-put_parts-count c =
-    let stands = text_at_lem (got refl c.in-Some.ensures) c.root_at-k.ensures in
-    let start = text_writing stands c.args.out.now c.requires in
-    let marked = writing_next start c.put_slice-end.ensures in
-    writing_within marked
-
-pub slice_bounds-put_parts-start : goal.slice_bounds-put_parts-start
-slice_bounds-put_parts-start c =
-    let stands = text_at_lem (got refl c.in-Some.ensures) c.root_at-k.ensures in
-    let start = text_writing stands c.args.out.now c.requires in
-    let marked = writing_next start c.put_slice-end.ensures in
-    writing_within marked
 
 pub put_parts-end-requires : goal.put_parts-end-requires
 put_parts-end-requires c =
@@ -56,22 +32,6 @@ put_parts-end-requires c =
     let start = text_writing stands c.args.out.now c.requires in
     let marked = writing_next start c.put_slice-end.ensures in
     (stands.least, stands.there, writing_fits marked)
-
-pub overflow_add-end-2 : goal.overflow_add-end-2
-overflow_add-end-2 c =
-    let stands = text_at_lem (got refl c.in-Some.ensures) c.root_at-k.ensures in
-    let start = text_writing stands c.args.out.now c.requires in
-    let marked = writing_next start c.put_slice-end.ensures in
-    let whole = writing_next marked c.put_parts-end.ensures in
-    omega (arith, whole)
-
-pub shape_of-out : goal.shape_of-out
-shape_of-out c =
-    let stands = text_at_lem (got refl c.in-Some.ensures) c.root_at-k.ensures in
-    let start = text_writing stands c.args.out.now c.requires in
-    let marked = writing_next start c.put_slice-end.ensures in
-    let whole = writing_next marked c.put_parts-end.ensures in
-    writing_same whole
 
 pub returns : goal.returns
 returns c =

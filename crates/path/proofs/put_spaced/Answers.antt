@@ -5,15 +5,6 @@ use Rattle.octets.specs.Filling.{filling_fits}
 use Rattle.path.specs.PathWriting.{four, spacing_start, spacing_there, spacing_more, spacing_dotted, spacing_turn, spacing_end}
 use Rattle.path.proofs.put_spaced.Goals as goal
 
-pub loop-init : goal.loop-init
-loop-init c = spacing_start _ c.requires.0 c.requires.1
-
-pub slice_bounds-put_le-count : goal.slice_bounds-put_le-count
-slice_bounds-put_le-count c = c.loop.invariant.fill.within
-
-pub slice_bounds-put_le-start : goal.slice_bounds-put_le-start
-slice_bounds-put_le-start c = c.loop.invariant.fill.within
-
 pub put_le-at-requires : goal.put_le-at-requires
 put_le-at-requires c = filling_fits (le c.args.dots 0x2E) _ (spacing_more c.loop.invariant c.loop-test.true)
 
@@ -21,37 +12,15 @@ pub overflow_add-at : goal.overflow_add-at
 overflow_add-at c =
     let h = (spacing_dotted c.loop.invariant c.loop-test.true c.put_le-at.ensures) in omega (arith, h.within, h.len)
 
-pub overflow_add-p : goal.overflow_add-p
-overflow_add-p c = omega (arith, (spacing_there c.loop.invariant c.loop-test.true))
-
-pub overflow_add-p-in-loop : goal.overflow_add-p-in-loop
-overflow_add-p-in-loop c = omega (arith, (spacing_there c.loop.invariant c.loop-test.true))
-
 pub slice_bounds-put_slice-end : goal.slice_bounds-put_slice-end
 slice_bounds-put_slice-end c = omega (arith, (spacing_there c.loop.invariant c.loop-test.true))
-
-pub slice_bounds-put_slice-count-in-loop : goal.slice_bounds-put_slice-count-in-loop
-slice_bounds-put_slice-count-in-loop c = (spacing_dotted c.loop.invariant c.loop-test.true c.put_le-at.ensures).within
-
-pub slice_bounds-put_slice-start-in-loop : goal.slice_bounds-put_slice-start-in-loop
-slice_bounds-put_slice-start-in-loop c = (spacing_dotted c.loop.invariant c.loop-test.true c.put_le-at.ensures).within
 
 pub put_slice-at-requires : goal.put_slice-at-requires
 put_slice-at-requires c =
     filling_fits (four c.args.b.now (c.loop.p + c.args.skip)) _ (spacing_dotted c.loop.invariant c.loop-test.true c.put_le-at.ensures)
 
-pub overflow_add-at-in-loop : goal.overflow_add-at-in-loop
-overflow_add-at-in-loop c =
-    let h = (spacing_turn c.loop.invariant c.loop-test.true c.put_le-at.ensures c.put_slice-at.ensures).fill in omega (arith, h.within, h.len)
-
-pub overflow_add-p-in-loop-2 : goal.overflow_add-p-in-loop-2
-overflow_add-p-in-loop-2 c = omega (arith, (spacing_there c.loop.invariant c.loop-test.true))
-
 pub loop-preserved : goal.loop-preserved
 loop-preserved c = (spacing_turn c.loop.invariant c.loop-test.true c.put_le-at.ensures c.put_slice-at.ensures)
-
-pub shape_of-out : goal.shape_of-out
-shape_of-out c = c.loop.invariant.fill.len
 
 pub returns : goal.returns
 returns c = spacing_end c.loop.invariant c.loop-test.false

@@ -6,9 +6,6 @@ pub put_list-size-requires : goal.put_list-size-requires
 put_list-size-requires c =
     (c.requires.0.few, list-room c.requires.0 c.requires.1.held c.requires.1.named c.args.out.now c.requires.1.room)
 
-pub walk_terms-requires : goal.walk_terms-requires
-walk_terms-requires c = ready_walk c.requires.0
-
 pub settle-requires : goal.settle-requires
 settle-requires c =
     body_settles c.requires.0 c.requires.1.held c.requires.1.named c.args.out.now c.requires.1.room c.put_list-size.ensures (walk-left _ _ _ _ c.walk_terms.ensures c.requires.1.held)

@@ -5,9 +5,6 @@ use Rattle.settle.proofs.settle.Goals as goal
 pub loop-j-init : goal.loop-j-init
 loop-j-init c = moving_start c.requires
 
-pub record_at-r-requires : goal.record_at-r-requires
-record_at-r-requires c = moving_record c.loop-j.invariant (search)
-
 pub put_text-at-requires : goal.put_text-at-requires
 put_text-at-requires c = moving_fits c.loop-j.invariant (search) c.record_at-r.ensures
 

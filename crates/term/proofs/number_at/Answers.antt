@@ -3,8 +3,5 @@ use Rattle.std.proofs.Common.{arith}
 use Rattle.octets.specs.Reading.{digits-small}
 use Rattle.term.proofs.number_at.Goals as goal
 
-pub returns-clause-value : goal.returns-clause-value
-returns-clause-value c = c.get_le.ensures.is
-
 pub returns-clause-small : goal.returns-clause-small
 returns-clause-small c = digits-small c.get_le.ensures (omega arith)

@@ -7,6 +7,3 @@ put_record-requires c = spliced-room _ _ c.args.out.now c.if-i-out.true
 
 pub returns-then-i-out : goal.returns-then-i-out
 returns-then-i-out c = spliced-put _ _ c.args.out.now c.if-i-out.true c.put_record.ensures
-
-pub returns-else-i-out : goal.returns-else-i-out
-returns-else-i-out c = spliced_not _ _ c.args.out.now c.if-i-out.false

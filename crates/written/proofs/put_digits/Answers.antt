@@ -14,9 +14,6 @@ no_digits x e = rw e refl
 pub returns-then-width-eq0 : goal.returns-then-width-eq0
 returns-then-width-eq0 c = wrote_as (no_digits _ c.if-width-eq0.true) (record { count = refl; is = refl })
 
-pub overflow_add-base : goal.overflow_add-base
-overflow_add-base c = omega (arith, c.requires.0)
-
 pub put_le-requires : goal.put_le-requires
 put_le-requires c = c.requires.1
 

@@ -28,49 +28,12 @@ put_text-at-requires c =
     let h0 = begun e (fields_of c.args.t.now c.args.a c.args.x) c.requires.1 in
     (writing_fits h0, columns-text e _ c.requires.0, columns-spelled e _ c.requires.0)
 
-pub overflow_add-at : goal.overflow_add-at
-overflow_add-at c =
-    let e = columns c.text_at-text.ensures c.kind_at-kind.ensures c.numbers_at-numbers.ensures in
-    let h0 = begun e (fields_of c.args.t.now c.args.a c.args.x) c.requires.1 in
-    let h1 = writing_next h0 c.put_text-at.ensures in
-    omega (arith, h1)
-
-pub slice_bounds-put_form-count : goal.slice_bounds-put_form-count
-slice_bounds-put_form-count c =
-    let e = columns c.text_at-text.ensures c.kind_at-kind.ensures c.numbers_at-numbers.ensures in
-    let h0 = begun e (fields_of c.args.t.now c.args.a c.args.x) c.requires.1 in
-    let h1 = writing_next h0 c.put_text-at.ensures in
-    writing_within h1
-
-pub slice_bounds-put_form-start : goal.slice_bounds-put_form-start
-slice_bounds-put_form-start c =
-    let e = columns c.text_at-text.ensures c.kind_at-kind.ensures c.numbers_at-numbers.ensures in
-    let h0 = begun e (fields_of c.args.t.now c.args.a c.args.x) c.requires.1 in
-    let h1 = writing_next h0 c.put_text-at.ensures in
-    writing_within h1
-
 pub put_form-at-requires : goal.put_form-at-requires
 put_form-at-requires c =
     let e = columns c.text_at-text.ensures c.kind_at-kind.ensures c.numbers_at-numbers.ensures in
     let h0 = begun e (fields_of c.args.t.now c.args.a c.args.x) c.requires.1 in
     let h1 = writing_next h0 c.put_text-at.ensures in
     (writing_fits h1, columns-narrow e _ c.requires.0)
-
-pub overflow_add-at-2 : goal.overflow_add-at-2
-overflow_add-at-2 c =
-    let e = columns c.text_at-text.ensures c.kind_at-kind.ensures c.numbers_at-numbers.ensures in
-    let h0 = begun e (fields_of c.args.t.now c.args.a c.args.x) c.requires.1 in
-    let h1 = writing_next h0 c.put_text-at.ensures in
-    let h2 = writing_next h1 c.put_form-at.ensures in
-    omega (arith, h2)
-
-pub shape_of-out : goal.shape_of-out
-shape_of-out c =
-    let e = columns c.text_at-text.ensures c.kind_at-kind.ensures c.numbers_at-numbers.ensures in
-    let h0 = begun e (fields_of c.args.t.now c.args.a c.args.x) c.requires.1 in
-    let h1 = writing_next h0 c.put_text-at.ensures in
-    let h2 = writing_next h1 c.put_form-at.ensures in
-    writing_same h2
 
 pub returns : goal.returns
 returns c =

@@ -12,43 +12,11 @@ put_buffer_front-at-requires c =
     let h0 = two-start (buffer_front 16) (uuid_bytes c.args.t.now) c.args.out.now (uuid-front c.args.t.now) c.requires.1 in
     (writing_fits h0, omega arith)
 
-pub overflow_add-at : goal.overflow_add-at
-overflow_add-at c =
-    let h0 = two-start (buffer_front 16) (uuid_bytes c.args.t.now) c.args.out.now (uuid-front c.args.t.now) c.requires.1 in
-    let h1 = writing_next h0 c.put_buffer_front-at.ensures in
-    let h = h1 in omega (arith, writing_within h, writing_same h, c.well_formed.1.0.0)
-
-pub slice_bounds-put_uuid-count : goal.slice_bounds-put_uuid-count
-slice_bounds-put_uuid-count c =
-    let h0 = two-start (buffer_front 16) (uuid_bytes c.args.t.now) c.args.out.now (uuid-front c.args.t.now) c.requires.1 in
-    let h1 = writing_next h0 c.put_buffer_front-at.ensures in
-    writing_within h1
-
-pub slice_bounds-put_uuid-start : goal.slice_bounds-put_uuid-start
-slice_bounds-put_uuid-start c =
-    let h0 = two-start (buffer_front 16) (uuid_bytes c.args.t.now) c.args.out.now (uuid-front c.args.t.now) c.requires.1 in
-    let h1 = writing_next h0 c.put_buffer_front-at.ensures in
-    writing_within h1
-
 pub put_uuid-at-requires : goal.put_uuid-at-requires
 put_uuid-at-requires c =
     let h0 = two-start (buffer_front 16) (uuid_bytes c.args.t.now) c.args.out.now (uuid-front c.args.t.now) c.requires.1 in
     let h1 = writing_next h0 c.put_buffer_front-at.ensures in
     (c.requires.0, omega (arith, writing_fits h1, uuid-length c.args.t.now))
-
-pub overflow_add-at-2 : goal.overflow_add-at-2
-overflow_add-at-2 c =
-    let h0 = two-start (buffer_front 16) (uuid_bytes c.args.t.now) c.args.out.now (uuid-front c.args.t.now) c.requires.1 in
-    let h1 = writing_next h0 c.put_buffer_front-at.ensures in
-    let h2 = writing_next h1 c.put_uuid-at.ensures in
-    let h = h2 in omega (arith, writing_within h, writing_same h, c.well_formed.1.0.0)
-
-pub shape_of-out : goal.shape_of-out
-shape_of-out c =
-    let h0 = two-start (buffer_front 16) (uuid_bytes c.args.t.now) c.args.out.now (uuid-front c.args.t.now) c.requires.1 in
-    let h1 = writing_next h0 c.put_buffer_front-at.ensures in
-    let h2 = writing_next h1 c.put_uuid-at.ensures in
-    writing_same h2
 
 pub returns : goal.returns
 returns c =

@@ -9,18 +9,12 @@ use Rattle.encode.proofs.Terms.+measure.Goals as goal
 pub kids_of-returns-then-n-eq0 : goal.kids_of-returns-then-n-eq0
 kids_of-returns-then-n-eq0 t c = rw c.none.ensures (none-listed _ _ _ _ _ c.if-n-eq0.true, c.requires.1)
 
-pub kids_of-sizes_in-s-requires : goal.kids_of-sizes_in-s-requires
-kids_of-sizes_in-s-requires t c = (omega (arith, c.requires.0.level), (omega (arith, c.requires.0.most), c.requires.1))
-
 pub kids_of-returns : goal.kids_of-returns
 kids_of-returns t c =
     (c.sizes_in-s.ensures.0, rw c.keep.ensures (parent_put c.sizes_in-s.ensures.1 c.requires.0 _ c.sizes_in-s.ensures.0.counted))
 
 pub size_of-returns-then-levels-eq0 : goal.size_of-returns-then-levels-eq0
 size_of-returns-then-levels-eq0 t c = rw c.none.ensures (none-measured _ _ _ _ c.count-n.ensures c.then-levels-eq0.either, c.requires.1)
-
-pub size_of-kids_of-kids-requires : goal.size_of-kids_of-kids-requires
-size_of-kids_of-kids-requires t c = (omega arith, (parent_made c.if-levels-eq0.false c.requires.0 (omega arith) c.own_at-own.ensures.0, c.requires.1))
 
 pub size_of-term_len-requires : goal.size_of-term_len-requires
 size_of-term_len-requires t c =
@@ -37,12 +31,6 @@ size_of-returns t c =
     let (e, p, g) = c.own_at-own.ensures in
     let k = takes-here c.args.self.now.sound (omega arith) e p g _ c.kids_of-kids.ensures.0.counted c.term_len.ensures in
     (node-measured _ _ _ _ c.if-levels-eq0.false (omega arith) e c.kids_of-kids.ensures.0 k c.records_in.ensures c.is_deeper.ensures, c.kids_of-kids.ensures.1)
-
-pub sizes_in-loop-init : goal.sizes_in-loop-init
-sizes_in-loop-init t c = rw c.none-all.ensures (left-start _ _ _ _ _ (omega arith), c.requires.1)
-
-pub sizes_in-size_of-s-requires : goal.sizes_in-size_of-s-requires
-sizes_in-size_of-s-requires t c = (omega arith, (c.requires.0, c.loop.invariant.1))
 
 pub sizes_in-overflow_add-all : goal.sizes_in-overflow_add-all
 sizes_in-overflow_add-all t c =

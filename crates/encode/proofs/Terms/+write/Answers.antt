@@ -7,15 +7,6 @@ use Rattle.encode.specs.WalkLaws.{none-measured, none-listed, put-none, node-put
 use Rattle.encode.specs.Sound.{parent_made, start-here, body-few-here, kids-few-here}
 use Rattle.encode.proofs.Terms.+write.Goals as goal
 
-pub write_in-loop-init : goal.write_in-loop-init
-write_in-loop-init t c = (listing_start _ _ _ _ _ _ (omega arith) c.requires.2.fits, c.requires.1)
-
-pub write_in-slice_bounds-write_term-count : goal.write_in-slice_bounds-write_term-count
-write_in-slice_bounds-write_term-count t c = omega (arith, c.loop.invariant.0.fill.within)
-
-pub write_in-slice_bounds-write_term-start : goal.write_in-slice_bounds-write_term-start
-write_in-slice_bounds-write_term-start t c = omega (arith, c.loop.invariant.0.fill.within)
-
 pub write_in-write_term-done-requires : goal.write_in-write_term-done-requires
 write_in-write_term-done-requires t c = (
   omega arith,
@@ -29,10 +20,6 @@ write_in-write_term-done-requires t c = (
   ),
 )
 
-pub write_in-overflow_add-at : goal.write_in-overflow_add-at
-write_in-overflow_add-at t c =
-    omega (arith, (listing_turn c.loop.invariant.0 {j = c.args.n - (c.loop.counter + 1)} (omega arith) c.write_term-done.ensures.0))
-
 pub write_in-loop-preserved : goal.write_in-loop-preserved
 write_in-loop-preserved t c = (listing_turn c.loop.invariant.0 (omega arith) c.write_term-done.ensures.0, c.write_term-done.ensures.1)
 
@@ -42,14 +29,8 @@ write_in-returns t c = (listing_end c.loop.invariant.0 (omega arith), c.loop.inv
 pub write_kids-returns-then-n-eq0 : goal.write_kids-returns-then-n-eq0
 write_kids-returns-then-n-eq0 t c = (put-none _ (none-listed _ _ _ _ _ c.if-n-eq0.true), c.requires.1)
 
-pub write_kids-write_in-requires : goal.write_kids-write_in-requires
-write_kids-write_in-requires t c = (omega arith, c.requires)
-
 pub write_term-returns-then-levels-eq0 : goal.write_term-returns-then-levels-eq0
 write_term-returns-then-levels-eq0 t c = (put-none _ (none-measured _ _ _ _ c.count-n.ensures c.then-levels-eq0.either), c.requires.1)
-
-pub write_term-asked_size-size-requires : goal.write_term-asked_size-size-requires
-write_term-asked_size-size-requires t c = (parent_made c.if-levels-eq0.false c.requires.0 (omega arith) c.own_at-own.ensures.0, c.requires.1)
 
 pub write_term-put_head-at-requires : goal.write_term-put_head-at-requires
 write_term-put_head-at-requires t c =
