@@ -1,8 +1,5 @@
 -- `written::field_len` meets its contract: the bytes of the text and of the numbers. Assumes nothing.
-use mathlib.Core.Path.{◌≡◌, sym, ◌∙◌, ap, ap₂}
-use Prim.Native.Nat.{ℕ, ◌+◌}
-use native.Mathlib.Omega.{arith}
-use lib.ListN.{length, length-append}
+use Rattle.std.proofs.Common.{◌≡◌, ℕ, ◌+◌, length, sym, ◌∙◌, ap, ap₂, arith, length-append}
 use Rattle.grammar.specs.declared.Numbers.{Numbers}
 use Rattle.grammar.specs.declared.Row.{Row}
 use Rattle.grammar.specs.declared.Text.{Text}
@@ -17,9 +14,12 @@ use Rattle.written.proofs.field_len.Goals as goal
 columns : {r : Row} {t : Text} {k : ℕ} {f : Numbers} → t ≡ r.text → k ≡ r.kind → f ≡ r.numbers → Columns r t k f
 columns et ek en = record { text = et; kind = ek; numbers = en }
 
-two_lengths : {r : Row} {t : Text} {k : ℕ} {f : Numbers} → Columns r t k f → (v : Fields) → Fine r v → {m n : ℕ} → TextTakes t k v.text m → FormTakes f v.x n → m + n ≡ length (field_bytes r v)
+-- the text's length and the numbers' make that of both
+two_lengths : {r : Row} {t : Text} {k : ℕ} {f : Numbers} → Columns r t k f → (v : Fields) → Fine r v
+    → {m n : ℕ} → TextTakes t k v.text m → FormTakes f v.x n → m + n ≡ length (field_bytes r v)
 two_lengths {r} {t} {k} {f} e v h p q =
-    ap₂ ◌+◌ (p v.a v.x (columns-text e v h)) (q v.a) ∙ sym (length-append (text_bytes t k v) (form_bytes f v.a v.x)) ∙ sym (ap length (columns-bytes e v))
+    let both = ap₂ ◌+◌ (p v.a v.x (columns-text e v h)) (q v.a) in
+    both ∙ sym (length-append (text_bytes t k v) (form_bytes f v.a v.x)) ∙ sym (ap length (columns-bytes e v))
 
 pub text_len-requires : goal.text_len-requires
 text_len-requires c =

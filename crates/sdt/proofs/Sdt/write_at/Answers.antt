@@ -14,7 +14,9 @@ returns-then-not-is_writable c =
 pub returns-in_err-n : goal.returns-in_err-n
 returns-in_err-n c =
     let p = err_from_is_err_and c.from_residual.result c.from_residual.ensures.1 in
-    rw (p.1, p.2) (write_refused _ _ _ _ (sym c.is_sound.ensures.says ∙ c.if-not-is_sound.false) (sym c.is_writable.ensures.says ∙ c.if-not-is_writable.false) _ (rw add-zero at c.in_err-n.ensures))
+    let sound = sym c.is_sound.ensures.says ∙ c.if-not-is_sound.false in
+    let writable = sym c.is_writable.ensures.says ∙ c.if-not-is_writable.false in
+    rw (p.1, p.2) (write_refused _ _ _ _ sound writable _ (rw add-zero at c.in_err-n.ensures))
 
 pub returns : goal.returns
 returns c =
