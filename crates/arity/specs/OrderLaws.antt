@@ -1,7 +1,7 @@
 -- Laws of texts in order: the tests `below` and `same` are what std's comparison of slices answers; `below` is transitive; and
 -- `compare`'s loop. Document 01, "The term file" (An arity entry).
 -- Assumes nothing.
-use Rattle.std.specs.Prelude.{◌≡◌, refl, Bool, false, ◌||◌, not, List, ◌∷◌, ℕ, ◌≤◌, T, eqb, take, drop, min}
+use Rattle.std.specs.Prelude.{◌≡◌, refl, Bool, false, ◌||◌, not, List, ◌∷◌, ℕ, ◌≤◌, ◌<◌, T, eqb, take, drop, min}
 use Rattle.std.specs.Ordering.{is_some_and, MatchOrdering}
 use Rattle.std.specs.Cmp.Lexicographic.{slice_cmp, slice_partial_cmp}
 use Rattle.std.proofs.lemmas.Cmp.{nat_list_cmp_total, same_from_slice_cmp, same_from_slice_cmp_tested, ranked}
@@ -82,10 +82,16 @@ module _ (a s : List ℕ) {n i : ℕ} (h : Compared a s n i) where
   size : length (take n s) ≡ n
   size = length-take-le n s h.there
 
+  -- where one of both ends, their lengths decide
+  pub compared_as : (o : Ordering) → i ≡ min (length a) n → MatchOrdering o (length a < n) (length a ≡ n) (n < length a) → o ≡ slice_cmp nat_cmp a (take n s)
+  compared_as Less e k = rw (past_end a {at = i} (omega arith), next_byte (take n s) i (omega (arith, size))) at h.left
+  compared_as Equal e k = rw (past_end a {at = i} (omega arith), past_end (take n s) {at = i} (omega (arith, size))) at h.left
+  compared_as Greater e k = rw (next_byte a i (omega arith), past_end (take n s) {at = i} (omega (arith, size))) at h.left
+
   pub compared_end : i ≡ min (length a) n → nat_cmp (length a) n ≡ slice_cmp nat_cmp a (take n s)
-  compared_end e = by (nat_cmp (length a) n) refl
+  compared_end e = compared_as (nat_cmp (length a) n) e (by (nat_cmp (length a) n) refl)
     where
-      by : (o : Ordering) → o ≡ nat_cmp (length a) n → o ≡ slice_cmp nat_cmp a (take n s)
-      by Less k = rw (past_end a {at = i} (omega (arith, ranked (length a) n Less k)), next_byte (take n s) i (omega (arith, size, ranked (length a) n Less k))) at h.left
-      by Equal k = rw (past_end a {at = i} (omega (arith, ranked (length a) n Equal k)), past_end (take n s) {at = i} (omega (arith, size, ranked (length a) n Equal k))) at h.left
-      by Greater k = rw (next_byte a i (omega (arith, ranked (length a) n Greater k)), past_end (take n s) {at = i} (omega (arith, size, ranked (length a) n Greater k))) at h.left
+      by : (o : Ordering) → o ≡ nat_cmp (length a) n → MatchOrdering o (length a < n) (length a ≡ n) (n < length a)
+      by Less k = ranked (length a) n Less k
+      by Equal k = ranked (length a) n Equal k
+      by Greater k = ranked (length a) n Greater k

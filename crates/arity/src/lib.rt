@@ -58,21 +58,28 @@ fn compare(a: &[u8], head: &[u8], rest: &[u8], n: usize) -> Ordering
     requires { n ≤ length (spelled head.now rest.now) }
     ensures { result ≡ slice_cmp nat_cmp a.now (take n (spelled head.now rest.now)) }
 {
-    for i in 0..a.len().min(n) {
-        match a[i].cmp(&path::spelled_at(head, rest, i)) {
-            Ordering::Equal => {}
-            unequal => return unequal,
+    for i in 0..a.len() {
+        if n <= i {
+            return Ordering::Greater;
+        }
+        let (x, y) = (a[i], path::spelled_at(head, rest, i));
+        if x != y {
+            return x.cmp(&y);
         }
     }
-    a.len().cmp(&n)
+    if a.len() < n {
+        Ordering::Less
+    } else {
+        Ordering::Equal
+    }
 }
 
 // Whether e is right, and its text above the one before it.
-#[tactic(auto, using(crate::specs::OrderLaws::told_below), unfolding(crate::specs::ArityLaws::fits_behind))]
+#[tactic(auto, using(crate::specs::OrderLaws::order_below), unfolding(crate::specs::ArityLaws::fits_behind))]
 fn follows(pool: &[u8], last: &[u8], e: Entry) -> bool
     ensures { result ≡ fits_behind pool.now last.now e }
 {
-    entry_fits(pool, e) && last < term::text_at(pool, e.start, e.len)
+    entry_fits(pool, e) && last.cmp(term::text_at(pool, e.start, e.len)).is_lt()
 }
 
 // Whether no entry of the list is wrong: else 3. An empty text, which is no path, stands before the first.

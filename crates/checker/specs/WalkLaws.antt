@@ -29,9 +29,15 @@ pub record Failed (s : Step) (f : Fault) : Type 0 where
   pub says : s.number ≡ number f.refusal
   pub at : s.next ≡ f.index
 
+-- and stopped there, among the records
+pub record Stopped (s : Step) (records : List ℕ) (from : ℕ) (f : Fault) : Type 0 where
+  pub fails : Failed s f
+  pub ends : s.rest ≡ records_from records f.index
+  pub moved : from ≤ f.index + number f.refusal
+
 -- what an answer tells of the step s
 abbrev pub Told : Step → List ℕ → ℕ → Result ℕ Fault → Type 0
-Told s records from r = MatchResult r (Passed s records from) (Failed s)
+Told s records from r = MatchResult r (Passed s records from) (Stopped s records from)
 
 module _ {s : Step} {f : Fault} (t : Failed s f) where
   pub failed-number : s.number ≡ 0 → ⊥
@@ -54,8 +60,8 @@ module _ (arities pool records : List ℕ) (l : ℕ) (p : Place) (i : ℕ) where
       ended zero = refl
       ended (suc l) = refl
 
-  pub told_end : length records / 24 ≤ i → Failed (check arities pool l p (records_from records i) i) (record { refusal = RecordsEnd; index = i })
-  told_end h = rw (records-none records i h, check-nil) (record { says = refl; at = refl })
+  pub told_end : length records / 24 ≤ i → Stopped (check arities pool l p (records_from records i) i) records (i + 1) (record { refusal = RecordsEnd; index = i })
+  told_end h = let e = records-none records i h in rw (e, check-nil) (record { fails = record { says = refl; at = refl }; ends = sym e; moved = omega arith })
 
   -- ── At a record
   module _ {r : Record} (h : i < length records / 24) (e : r ≡ record_at records i) where
@@ -70,10 +76,10 @@ module _ (arities pool records : List ℕ) (l : ℕ) (p : Place) (i : ℕ) where
         at zero z = refl
         at (suc l) z = rw z refl
 
-    pub told-fault : {x : Refusal} → number x ≡ fault_of arities pool p l r → Failed (check arities pool l p (records_from records i) i) (record { refusal = x; index = i })
+    pub told-fault : {x : Refusal} → number x ≡ fault_of arities pool p l r → Stopped (check arities pool l p (records_from records i) i) records (i + 1) (record { refusal = x; index = i })
     told-fault {x} f =
         let h = number-positive x in
-        rw (more, refused (records_from records (i + 1)) (ne_eqb _ 0 (λ z. omega (arith, f, z)))) (record { says = sym f; at = refl })
+        rw (more, refused (records_from records (i + 1)) (ne_eqb _ 0 (λ z. omega (arith, f, z)))) (record { fails = record { says = sym f; at = refl }; ends = sym more; moved = omega (arith, h) })
 
     module _ (z : 0 ≡ fault_of arities pool p l r) where
       accepted : (rs : List Record) → check arities pool l p (r ∷ rs) i ≡ kids (check arities pool (l - 1)) (row_in (row_of r.kind)) r.kids 0 rs (i + 1)
@@ -128,6 +134,11 @@ module _ {g : Place → List Record → ℕ → Step} {row : Row} {records : Lis
 
     pub going_bad : {f : Fault} → Failed (g p (records_from records next) next) f → Failed whole f
     going_bad t = rw (sym turned, after-bad (g p (records_from records next) next) (kids g row (n - (j + 1)) (j + 1)) (failed-number t)) t
+
+    pub going_stopped : {f : Fault} → Stopped (g p (records_from records next) next) records (next + 1) f → Stopped whole records from f
+    going_stopped t =
+        rw (sym turned, after-bad (g p (records_from records next) next) (kids g row (n - (j + 1)) (j + 1)) (failed-number t.fails))
+        (record { fails = t.fails; ends = t.ends; moved = omega (arith, t.moved, h.moved) })
 
     pub going_turn : {m : ℕ} → Passed (g p (records_from records next) next) records (next + 1) m → Going g row records whole from n (j + 1) m
     going_turn t = record {

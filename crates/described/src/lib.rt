@@ -4,7 +4,8 @@
 // A record is its kind, then fields by letter: a, n the child count, x, s and l the text; * says how often it stands.
 #![tactic(auto)]
 
-ghost use Rattle.std.specs.Prelude.{◌≡◌, length};
+ghost use Rattle.std.specs.Prelude.{◌≡◌, MatchOption, None, nat_eq, length, position};
+ghost use Rattle.described.specs.Split.{Split};
 
 // Room for 65,537 records.
 pub fn huge_buffer() -> [u8; 1600000]
@@ -283,8 +284,17 @@ pub fn put_file(line: &[u8], out: &mut [u8]) -> usize {
     pen.end
 }
 
+// Where the first `mark` stands.
+fn mark_at(line: &[u8], mark: u8) -> Option<usize>
+    ensures { result ≡ position (λ b. nat_eq b mark) line.now }
+{
+    line.iter().position(|b| *b == mark)
+}
+
 // What stands before the first `mark` and what behind it, where there is one.
-pub fn split_once(line: &[u8], mark: u8) -> Option<(&[u8], &[u8])> {
-    let at = line.iter().position(|b| *b == mark)?;
+pub fn split_once(line: &[u8], mark: u8) -> Option<(&[u8], &[u8])>
+    ensures { MatchOption result (position (λ b. nat_eq b mark) line.now ≡ None) (λ p. Split line.now mark p.0.now p.1.now) }
+{
+    let at = mark_at(line, mark)?;
     Some((&line[..at], &line[at + 1..]))
 }

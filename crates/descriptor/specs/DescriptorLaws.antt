@@ -74,7 +74,7 @@ module _ (w a : ℕ) (text : List ℕ) {lo hi : ℕ} (el : lo ≡ min_of w text)
   range_under h = rw (← el, ← eh, lt-leb lo hi h) refl
 
   module _ (h : lo ≤ hi) {full : ℕ} (ef : full ≡ 256 ^ w - 1) where
-    range_over : full ≤ hi - lo → false ≡ range_fits w a text
+    pub range_over : full ≤ hi - lo → false ≡ range_fits w a text
     unfolding range_fits range_length
     range_over g = rw (← el, ← eh, le-leb lo hi h, le-ltb (hi - lo + 1) (256 ^ w) (omega arith)) refl
 

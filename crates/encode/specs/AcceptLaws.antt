@@ -37,7 +37,7 @@ value-fits zero b h = omega arith
 value-fits (suc n) [] h = omega (arith, pow-suc 256 n, value-fits n [] h)
 value-fits (suc n) (x ∷ b) h = omega (arith, pow-suc 256 n, value-fits n b (λ i. h (suc i)), h 0)
 
-pool-few : (f : List ℕ) → Bytes f → pool_length f < 4294967296
+pub pool-few : (f : List ℕ) → Bytes f → pool_length f < 4294967296
 unfolding le_at
 pool-few f h = value-fits 4 (drop 20 f) (λ i. rw (get_or-drop 20 f i 0) (h (20 + i)))
 
@@ -135,14 +135,17 @@ module _ (f : List ℕ) (z : (refusal_of f).number ≡ 0) where
   unfolding identity
   identity-length = let (a, b, c) = accepted-within in simp (length-take, length-drop) (omega arith)
 
-  -- by its bytes, which are those of a lent slice
-  module _ (h : Bytes f) where
+  -- by the pool's length, which a number of four bytes says
+  pub pool-ends : (layout_of f).pool + pool_length f ≡ length f
+  pool-ends = sym (layout-sized f (accepted-layout f z)).1
+
+  module _ (h : pool_length f < 4294967296) where
     accepted-small : Small (record_section f) (pool_section f)
     accepted-small =
         let (a, b, c) = accepted-within in
         let s = layout-sized f (accepted-layout f z) in
-        let q = pool-few f h in
-        record { few = simp (length-take, length-drop) (omega (arith, s.0)); short = simp (length-take, length-drop) (omega (arith, s.1)) }
+        let p = pool-ends in
+        record { few = simp (length-take, length-drop) (omega (arith, s.0)); short = simp (length-take, length-drop) (omega arith) }
 
     pub accepted-sound : Sound (record_section f) (pool_section f)
     accepted-sound = record { small = accepted-small; each = accepted-fine f z }

@@ -22,7 +22,7 @@ use Rattle.encode.specs.Walk.{Part}
 use Rattle.encode.specs.WalkLaws.{Measured, Room}
 use Rattle.encode.specs.Sound.{Sound}
 use Rattle.encode.specs.Answer.{whole, figures_number, number_of, walked, figures_small}
-use Rattle.encode.specs.AcceptLaws.{Bytes, passed, identity-length, accepted-sound}
+use Rattle.encode.specs.AcceptLaws.{Bytes, pool-few, passed, identity-length, accepted-sound}
 use Rattle.encode.specs.LateLaws.{encode_accepted}
 
 -- ── Header and terms
@@ -91,7 +91,7 @@ module _ (f : List ℕ) (v : verdict 0 0 ≡ refusal_of f) {s : File} (e : Secti
   own-identity = rw e.identity (identity-length f (passed f v))
 
   pub own-sound : Bytes f → Sound s.records.now s.pool.now
-  own-sound h = rw (e.records, e.pool) (accepted-sound f (passed f v) h)
+  own-sound h = rw (e.records, e.pool) (accepted-sound f (passed f v) (pool-few f h))
 
   pub own-answered : (first : List ℕ) {r : Result ℕ Fault} {out : List ℕ}
       → Answered r out (walked (sealed (opened s.identity.now (whole s.records.now s.pool.now).bytes)) (whole s.records.now s.pool.now) first) → Answered r out (encode_of f first)

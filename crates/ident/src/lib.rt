@@ -195,3 +195,14 @@ pub fn mmio_address(width: u64, address: u64) -> Result<GenericAddress, Refusal>
 {
     generic_address(AddressSpace::SystemMemory, width, address)
 }
+
+// What was made, as document 01 has it: 0 and the address, or the refusal's number and an address whose fields are all 0.
+#[tactic(auto, unfolding(crate::specs::Gas::answered, crate::specs::Gas::gas, crate::specs::Gas::access_size))]
+pub fn number_and_address(made: Result<GenericAddress, Refusal>) -> (u32, GenericAddress)
+    ensures { answered made ≡ record { number = result.0; address = result.1 } }
+{
+    match made {
+        Ok(address) => (0, address),
+        Err(refusal) => (refusal.number(), GenericAddress::default()),
+    }
+}

@@ -186,10 +186,7 @@ fn uuid(t: &[u8]) {
 
 // A refused address has all fields 0.
 fn address(made: Result<GenericAddress, Refusal>) {
-    let (number, a) = match made {
-        Ok(a) => (0, a),
-        Err(refusal) => (refusal.number(), GenericAddress::default()),
-    };
+    let (number, a) = ident::number_and_address(made);
     text(b"address");
     decimal(u64::from(number));
     text(b":");

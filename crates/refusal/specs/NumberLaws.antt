@@ -1,9 +1,9 @@
--- Laws of the refusals' numbers: no two refusals have one number, and none has 0.
-use Rattle.std.specs.Prelude.{◌≡◌, ℕ, ◌≤◌, ◌==◌, cond}
+-- Laws of the refusals' numbers: no two refusals have one number, and none has 0; so the number tells a result that has no value.
+use Rattle.std.specs.Prelude.{◌≡◌, ℕ, ◌≤◌, ◌==◌, cond, Result, Ok, Err}
 use Rattle.std.proofs.Common.{refl, sym, ap, ◌∙◌, arith}
 use Rattle.refusal.specs.declared.Refusal.{Refusal}
 use Rattle.refusal.specs.declared.Refusal.TheVariants as refusal
-use Rattle.refusal.specs.Number.{number}
+use Rattle.refusal.specs.Number.{number, number_said}
 
 -- the other way: which refusal a number is
 abbrev named : ℕ → Refusal
@@ -67,3 +67,10 @@ number-positive refusal.BadTable = omega arith
 number-positive refusal.Sum = omega arith
 number-positive refusal.NoFile = omega arith
 number-positive refusal.WriteOutside = omega arith
+
+-- a result that has no value is determined by its number
+pub said_determined : (r s : Result (Unit {0}) Refusal) → number_said r ≡ number_said s → r ≡ s
+said_determined (Ok u) (Ok v) n = refl
+said_determined (Ok u) (Err e) n = absurd (omega (arith, number-positive e))
+said_determined (Err e) (Ok u) n = absurd (omega (arith, number-positive e))
+said_determined (Err d) (Err e) n = ap Err (number-injective d e n)

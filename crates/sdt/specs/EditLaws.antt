@@ -13,7 +13,7 @@ use Rattle.sdt.specs.AnswerLaws.{sound-fits, writable-fits, opened-length}
 use Rattle.sdt.specs.declared.Sdt.{Sdt}
 use Rattle.refusal.specs.declared.Refusal.{Refusal}
 use Rattle.refusal.specs.Number.{number_said}
-use Rattle.refusal.specs.NumberLaws.{number-injective, number-positive}
+use Rattle.refusal.specs.NumberLaws.{number-injective, number-positive, said_determined}
 
 -- two answers to one call, to any of them, are equal: number, record, and every byte of the buffer
 pub left_determined : {r s : Edit} {out last : List ℕ} {o : Outcome} → Left r out o → Left s last o → (r ≡ s) × (out ≡ last)
@@ -32,13 +32,7 @@ result_determined t {r} {s} h k = (same r s (h.number ∙ sym k.number) (h.table
 -- of an edit in place: the result, the record and the buffer
 pub stored_determined : {r s : Result (Unit {0}) Refusal} {t u : Sdt} {out last : List ℕ} {o : Outcome} → Leaves (number_said r) t out o → Leaves (number_said s) u last o
     → (r ≡ s) × (t ≡ u) × (out ≡ last)
-stored_determined {r} {s} h k = (same r s (h.number ∙ sym k.number), h.table ∙ sym k.table, h.is ∙ sym k.is)
-  where
-    same : (r s : Result (Unit {0}) Refusal) → number_said r ≡ number_said s → r ≡ s
-    same (Ok u) (Ok v) n = refl
-    same (Ok u) (Err e) n = absurd (omega (arith, number-positive e))
-    same (Err e) (Ok u) n = absurd (omega (arith, number-positive e))
-    same (Err d) (Err e) n = ap Err (number-injective d e n)
+stored_determined {r} {s} h k = (said_determined r s (h.number ∙ sym k.number), h.table ∙ sym k.table, h.is ∙ sym k.is)
 
 pub accepted-sound : (t b : List ℕ) → 36 ≤ length t → length t ≤ 268435455 → length t ≤ length b → Standing (accepted (sealed t) b)
 unfolding accepted sound

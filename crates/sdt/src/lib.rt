@@ -56,7 +56,7 @@ pub fn put_header(identity: &[u8], out: &mut [u8]) -> usize
     header[4..8].fill(0);
     header[8] = identity[4];
     header[9] = 0;
-    header[10..].copy_from_slice(&identity[5..]);
+    header[10..].copy_from_slice(&identity[5..31]);
     36
 }
 

@@ -76,7 +76,7 @@ moving_start {table} {n} {pool} {first} {out} g =
     }
 
 module _ {table : List ℕ} {n pool first : ℕ} {before : List ℕ} {at j : ℕ} {out : List ℕ} (h : Moving table n pool first before at j out) where
-  moving_room : pool ≤ length out
+  pub moving_room : pool ≤ length out
   moving_room = omega (arith, h.given.room, h.len)
 
   pub moving_end : n ≤ j → out ≡ settled table n pool first before
@@ -118,7 +118,7 @@ module _ {table : List ℕ} {n pool first : ℕ} {before : List ℕ} {at j : ℕ
     unfolding moved
     record-next = rw next at h.front
 
-    moving_pool : pool + at + length (fetched table r) ≤ length out
+    pub moving_pool : pool + at + length (fetched table r) ≤ length out
     moving_pool = omega (arith, filling_left text-next, length-append (fetched table r) (fetched_all table (records_of before (j + 1) (n - (j + 1)))), h.given.room, h.len)
 
     pub moving_fits : length (fetched table r) ≤ length (lent (pool + at) out)

@@ -2,6 +2,8 @@
 // call, and held behind its length to what it was, so that a byte written past the length is seen.
 #![tactic(auto)]
 
+ghost use Rattle.std.specs.Prelude.{◌≡◌, [], MatchResult, take};
+
 use described::split_once;
 use refusal::Fault;
 
@@ -25,8 +27,7 @@ pub fn decimal(n: u64) {
 fn named(line: &[u8]) -> Option<&[u8]> {
     match split_once(line, b'=') {
         Some((name, description)) if !description.is_empty() => {
-            text(name);
-            text(b"=");
+            text(front(line, name.len() + 1));
             Some(description)
         }
         _ => {
@@ -89,44 +90,48 @@ fn told(a: Answer, out: &[u8]) {
     }
 }
 
-// Calls into the first n bytes of the output, and prints the answer; how many are written, where the call does not refuse.
-fn call_into<F: FnOnce(&mut [u8]) -> Answer>(n: usize, out: &mut [u8], call: F) -> Option<usize>
+// Calls into the first n bytes of the output, where there are as many.
+fn call_into<F: FnOnce(&mut [u8]) -> Answer>(n: usize, out: &mut [u8], call: F) -> Option<Answer>
     requires { F.IsAlwaysCallable call }
 {
     out.fill(BEFORE);
-    let a = call(out.get_mut(..n)?);
+    Some(call(out.get_mut(..n)?))
+}
+
+// Calls into the whole output, and prints the answer; how many bytes are written, where the call does not refuse.
+pub fn call<F: FnOnce(&mut [u8]) -> Answer>(out: &mut [u8], call: F) -> Option<usize>
+    requires { F.IsAlwaysCallable call }
+{
+    let a = call_into(out.len(), out, call)?;
     told(a, out);
     a.ok()
 }
 
-// Calls into the whole output.
-pub fn call<F: FnOnce(&mut [u8]) -> Answer>(out: &mut [u8], call: F) -> Option<usize>
-    requires { F.IsAlwaysCallable call }
-{
-    call_into(out.len(), out, call)
-}
-
-// The same call again, into n bytes.
+// The same call again, into n bytes; what is printed is printed behind the call.
 pub fn again<F: FnOnce(&mut [u8]) -> Answer>(n: usize, out: &mut [u8], call: F)
     requires { F.IsAlwaysCallable call }
 {
-    if n <= out.len() {
+    if let Some(a) = call_into(n, out, call) {
         text(b"  into ");
         decimal(n as u64);
         text(b":");
-        call_into(n, out, call);
+        told(a, out);
     }
 }
 
 // ── Bytes
 
 // What an answer left in an output: nothing where it refuses.
-pub fn written(a: Answer, out: &[u8]) -> &[u8] {
+pub fn written(a: Answer, out: &[u8]) -> &[u8]
+    ensures { MatchResult a (λ n. result.now ≡ take n out.now) (λ e. result.now ≡ []) }
+{
     front(out, a.unwrap_or(0))
 }
 
 // The first n bytes, or all where there are fewer.
-pub fn front(b: &[u8], n: usize) -> &[u8] {
+pub fn front(b: &[u8], n: usize) -> &[u8]
+    ensures { result.now ≡ take n b.now }
+{
     b.get(..n).unwrap_or(b)
 }
 

@@ -4,12 +4,12 @@ use Rattle.std.proofs.Common.{arith, ◌<◌, List, ℕ}
 use Rattle.std.proofs.lemmas.Grind.{common_steps}
 use Rattle.grammar.specs.KindLaws.{row-known, row_unknown}
 use Rattle.checker.specs.FaultLaws.{fault_unknown, fault-known}
-use Rattle.checker.specs.WalkLaws.{told_end, told-fault, some_level, told-kids, going_end, going_bad, going_turn}
+use Rattle.checker.specs.WalkLaws.{told_end, told-fault, some_level, told-kids, going_end, going_stopped, going_turn}
 use Rattle.checker.proofs.+check_kids_check_term.Goals as goal
 
 pub check_kids-returns-in_err-next : goal.check_kids-returns-in_err-next
 check_kids-returns-in_err-next t c =
-    let bad = going_bad c.loop-j.invariant c.loop-j-test.true c.child_place-place.ensures c.in_err-next.ensures in
+    let bad = going_stopped c.loop-j.invariant c.loop-j-test.true c.child_place-place.ensures c.in_err-next.ensures in
     grind (arith, common_steps)
 
 pub check_kids-loop-j-preserved : goal.check_kids-loop-j-preserved

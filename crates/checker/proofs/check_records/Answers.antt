@@ -6,7 +6,7 @@ use Rattle.checker.proofs.check_records.Goals as goal
 
 pub returns-in_err-next : goal.returns-in_err-next
 returns-in_err-next c =
-    let bad = scan-bad c.loop-next.invariant c.loop-next-test.true c.in_err-next.ensures in
+    let bad = scan-bad c.loop-next.invariant c.loop-next-test.true c.in_err-next.ensures.fails in
     grind (arith, common_steps)
 
 pub loop-next-preserved : goal.loop-next-preserved

@@ -1,4 +1,4 @@
--- `Terms::write_term`, `write_node`, `write_kids` and `write_in` meet their contracts: a term's parts one after the other, of which its
+-- `Terms::write_term`, `write_kids` and `write_in` meet their contracts: a term's parts one after the other, of which its
 -- children are written into the part behind what stands before them (`Put`, `Listing`), and each size that is kept is right (`Kept`).
 -- Assumes nothing.
 use Rattle.std.proofs.Common.{arith, ◌+◌, ◌-◌}
