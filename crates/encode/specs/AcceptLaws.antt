@@ -7,6 +7,7 @@ use Rattle.std.proofs.Math.Nat.{pow-suc}
 use Rattle.std.proofs.lemmas.List.{get_or-drop}
 use Rattle.octets.specs.Tests.{and_left, and_right}
 use Rattle.octets.specs.Bytes.{value, le_at}
+use Rattle.octets.specs.Reading.{Digits}
 use Rattle.grammar.specs.declared.Place.{Place}
 use Rattle.grammar.specs.declared.Place.TheVariants.{InList}
 use Rattle.grammar.specs.declared.Row.{Row}
@@ -18,7 +19,7 @@ use Rattle.written.specs.Fine.{Fine}
 use Rattle.written.specs.FineLaws.{row-narrow}
 use Rattle.term.specs.declared.Record.{Record}
 use Rattle.term.specs.File.{identity, touching, laid_out, few, Layout, refused_by, layout_of, record_count, pool_length, arity_offset, pool_offset}
-use Rattle.term.specs.FileLaws.{layout-within}
+use Rattle.term.specs.FileLaws.{header-small, layout-within}
 use Rattle.term.specs.Record.{record_at, records_of, records_from}
 use Rattle.arity.specs.Arity.{args_of}
 use Rattle.checker.specs.Refusal.{Verdict, verdict, text_of, record_section, arity_section, pool_section, refusal_of}
@@ -149,3 +150,10 @@ module _ (f : List ℕ) (z : (refusal_of f).number ≡ 0) where
 
     pub accepted-sound : Sound (record_section f) (pool_section f)
     accepted-sound = record { small = accepted-small; each = accepted-fine f z }
+
+  -- so too where the four bytes alone are known that say the pool's length
+  pub sound-read : {k : ℕ} → Digits f 20 4 k → Sound (record_section f) (pool_section f)
+  sound-read d =
+      let (a, b, c) = accepted-within in
+      let q = header-small {f = f} {at = 20} (omega arith) (omega arith) d in
+      accepted-sound (rw d.is at q)
